@@ -84,9 +84,9 @@ module _ (sh : Sheet) (masks : List ℕ) (p s : ℕ) (long : length (sh .scope) 
 
 -- for a sheet of a lawful bank and six masks, also for one that isn't there
 pub bank-decides :
-    (m : List Sheet) → LawfulBank m → (c : ℕ) (masks : List ℕ) → length masks ≡ 6 → (p s : ℕ) (b : Bool) → b ≡ supported (sheet-at m c) masks p s →
+    (m : List Sheet) → LawfulBank m → (c : ℕ) (masks : List ℕ) → length masks ≡ 6 → (p s : ℕ) {b : Bool} → b ≡ supported (sheet-at m c) masks p s →
     Decides b (HasSupport (sheet-at m c) masks p s)
-bank-decides m bank c masks six p s b e = decides (sheet-at m c) masks p s (elim (cases-lt c (length m)) [
+bank-decides m bank c masks six p s {b} e = decides (sheet-at m c) masks p s (elim (cases-lt c (length m)) [
   | inl l ↦ (let h : length (sheet-at m c .scope) ≤ 6 = bank .each c l .high in omega arith)
   | inr l ↦ subst (λ (sh : Sheet). length (sh .scope) ≤ length masks) (sym (sheet-past m c l)) (omega arith)
 ]) b e

@@ -1,0 +1,89 @@
+// Whether masks have a choice of one slot each that a rule allows.
+ghost use Prim.Native.Nat.{_≤_};
+ghost use Rattle.banks.specs.Rules.{Alone, all-same, allowed-by, free, rule-sheet};
+ghost use Rattle.network.specs.Sheets.{choices, some-pass, supported};
+ghost use Rattle.std.specs.shelf.Lawful.{all-pass};
+ghost use lib.Dec.{eqb};
+ghost use lib.ListN.{drop};
+ghost use mathlib.Core.Bool.{not};
+ghost use mathlib.Core.Path.{_≡_};
+use crate::rule::Rule;
+use crate::rule::RuleRecord;
+use crate::tried::with_alone;
+use network::mask::SLOTS;
+use network::mask::has_slot;
+use network::mask::single;
+
+// Whether each mask has a slot.
+fn all_filled(masks: &[u32]) -> bool
+    ensures { λ r. ⌜ r ≡ all-pass (λ m. not (eqb m 0)) (now (masks .entry)) ⌝ }
+{
+    for mask in masks {
+        if *mask == 0 {
+            return false;
+        }
+    }
+    true
+}
+
+// Whether some mask is another one.
+fn some_other(masks: &[u32], one: u32) -> bool
+    ensures { λ r. ⌜ r ≡ some-pass (λ m. not (eqb m one)) (now (masks .entry)) ⌝ }
+{
+    for mask in masks {
+        if *mask != one {
+            return true;
+        }
+    }
+    false
+}
+
+// Whether slots that are not all the same can be chosen, where position `p` has slot `s` alone.
+fn some_unequal(masks: &[u32], p: usize, s: u8) -> bool
+    requires { ⌜ Alone (now masks) p s ⌝ }
+    ensures { λ r. ⌜ r ≡ some-pass (λ t. not (all-same t)) (choices (now (masks .entry))) ⌝ }
+{
+    all_filled(masks) && some_other(masks, masks[p])
+}
+
+// Whether slots that all differ, and are none of `used`, can be chosen from the masks from position `q` on.
+fn some_distinct(masks: &[u32], q: usize, used: u32) -> bool
+    ensures { λ r. ⌜ r ≡ some-pass (free used) (choices (drop q (now (masks .entry)))) ⌝ }
+{
+    if q >= masks.len() {
+        return true;
+    }
+    for s in 0..SLOTS {
+        if has_slot(masks[q], s)
+            && !has_slot(used, s)
+            && some_distinct(masks, q + 1, used | single(s))
+        {
+            return true;
+        }
+    }
+    false
+}
+
+// Whether the rule allows a choice, where position `p` has slot `s` alone.
+fn some_allowed(rule: Rule, masks: &[u32], p: usize, s: u8) -> bool
+    requires { ⌜ Alone (now masks) p s ⌝ }
+    ensures { λ r. ⌜ r ≡ some-pass (allowed-by rule) (choices (now (masks .entry))) ⌝ }
+{
+    match rule {
+        Rule::NotEqual => some_unequal(masks, p, s),
+        Rule::AllDiff => some_distinct(masks, 0, 0),
+    }
+}
+
+// Whether slot `s` has a support at position `p`.
+pub fn rule_supports(line: &RuleRecord, masks: &[u32; 6], p: usize, s: u8) -> bool
+    requires { ⌜ now line .arity ≤ 6 ⌝ }
+    ensures { λ r. ⌜ r ≡ supported (rule-sheet (now (line .entry))) (now (masks .entry)) p s ⌝ }
+{
+    let arity = line.arity as usize;
+    if p >= arity || s >= SLOTS {
+        return false;
+    }
+    let tried = with_alone(masks, p, s);
+    some_allowed(line.rule, &tried[0..arity], p, s)
+}
