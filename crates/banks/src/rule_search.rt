@@ -38,9 +38,9 @@ fn some_other(masks: &[u32], one: u32) -> bool
     false
 }
 
-// Whether slots that are not all the same can be chosen, where position `p` has slot `s` alone.
-fn some_unequal(masks: &[u32], p: usize, s: u8) -> bool
-    requires { ⌜ Alone (now masks) p s ⌝ }
+// Whether slots that are not all the same can be chosen, where position `p` has one slot alone.
+fn some_unequal(masks: &[u32], p: usize) -> bool
+    requires { ⌜ Alone (now masks) p ⌝ }
     ensures { λ r. ⌜ r ≡ some-pass (λ t. not (all-same t)) (choices (now (masks .entry))) ⌝ }
 {
     all_filled(masks) && some_other(masks, masks[p])
@@ -64,13 +64,13 @@ fn some_distinct(masks: &[u32], q: usize, used: u32) -> bool
     false
 }
 
-// Whether the rule allows a choice, where position `p` has slot `s` alone.
-fn some_allowed(rule: Rule, masks: &[u32], p: usize, s: u8) -> bool
-    requires { ⌜ Alone (now masks) p s ⌝ }
+// Whether the rule allows a choice, where position `p` has one slot alone.
+fn some_allowed(rule: Rule, masks: &[u32], p: usize) -> bool
+    requires { ⌜ Alone (now masks) p ⌝ }
     ensures { λ r. ⌜ r ≡ some-pass (allowed-by rule) (choices (now (masks .entry))) ⌝ }
 {
     match rule {
-        Rule::NotEqual => some_unequal(masks, p, s),
+        Rule::NotEqual => some_unequal(masks, p),
         Rule::AllDiff => some_distinct(masks, 0, 0),
     }
 }
@@ -85,5 +85,5 @@ pub fn rule_supports(line: &RuleRecord, masks: &[u32; 6], p: usize, s: u8) -> bo
         return false;
     }
     let tried = with_alone(masks, p, s);
-    some_allowed(line.rule, &tried[0..arity], p, s)
+    some_allowed(line.rule, &tried[0..arity], p)
 }

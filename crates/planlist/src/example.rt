@@ -7,9 +7,30 @@ use banks::table::TableRecord;
 pub const OPEN: [u32; 6] = [7; 6];
 
 pub const CELLS: [u8; 24] = [
-    0, 0, 0, 0, 1, 2, 0, 2, 1, // sheet 0
-    0, 0, 0, 0, 1, 1, 2, 2, 2, // sheet 1
-    0, 0, 0, 0, 1, 2, // sheet 2
+    0,
+    0,
+    0,
+    0,
+    1,
+    2,
+    0,
+    2,
+    1, // sheet 0
+    0,
+    0,
+    0,
+    0,
+    1,
+    1,
+    2,
+    2,
+    2, // sheet 1
+    0,
+    0,
+    0,
+    0,
+    1,
+    2, // sheet 2
 ];
 
 pub const TABLES: [TableRecord; 3] = [
