@@ -1,0 +1,22 @@
+// A row: the open and the present masks of its blocks, of which the first ones are decided.
+ghost use Prim.Native.Nat.{_≤_};
+ghost use Rattle.network.specs.Laws.{LawfulRow};
+ghost use Rattle.network.specs.Rows.{row-of};
+ghost use lib.ListN.{length, take};
+ghost use mathlib.Core.Path.{_≡_};
+
+mod calls;
+
+// The first `blocks` masks of both arrays count. Every row is lawful: its present masks lie inside its open masks, one empty
+// present mask empties all, and no decided block has two slots.
+#[derive(Clone, Copy)]
+pub struct Row {
+    blocks: usize,
+    decided: usize,
+    opened: [u32; 32],
+    present: [u32; 32],
+    ghost few: { blocks ≤ 32 },
+    ghost within: { decided ≤ blocks },
+    ghost sized: { length (take blocks opened) ≡ blocks },
+    ghost lawful: { ∥ LawfulRow (row-of blocks decided opened present) ∥₁ },
+}

@@ -1,0 +1,84 @@
+// What a row tells of itself, and how it is made, decided and narrowed.
+ghost use Prim.Native.Nat.{suc};
+ghost use Rattle.network.specs.Offers.{first-of, slots-from};
+ghost use Rattle.network.specs.RowModel.{model};
+ghost use Rattle.network.specs.Rows.{dead, next-mask};
+ghost use Rattle.network.specs.Sheets.{has};
+ghost use lib.Dec.{eqb, ltb};
+ghost use lib.ListN.{getD, length};
+ghost use mathlib.Core.Bool.{_&&_};
+ghost use mathlib.Core.Path.{_≡_};
+use crate::mask::has_slot;
+use crate::mask::slot_from;
+use crate::row::Row;
+
+impl Row {
+    // How many blocks the row has.
+    pub fn blocks(&self) -> usize
+        ensures { λ r. ⌜ r ≡ length (model (now (self .entry)) .opened) ⌝ }
+    {
+        self.blocks
+    }
+
+    // How many blocks are decided: they are the first ones.
+    pub fn decided(&self) -> usize
+        ensures { λ r. ⌜ r ≡ model (now (self .entry)) .decided ⌝ }
+    {
+        self.decided
+    }
+
+    // The open mask of a block: empty for a block that isn't there.
+    pub fn open_mask(&self, block: usize) -> u32
+        ensures { λ r. ⌜ r ≡ getD (model (now (self .entry)) .opened) block 0 ⌝ }
+    {
+        if block < self.blocks {
+            self.opened[block]
+        } else {
+            0
+        }
+    }
+
+    // The present mask of a block: empty for a block that isn't there.
+    pub fn present_mask(&self, block: usize) -> u32
+        ensures { λ r. ⌜ r ≡ getD (model (now (self .entry)) .present) block 0 ⌝ }
+    {
+        if block < self.blocks {
+            self.present[block]
+        } else {
+            0
+        }
+    }
+
+    // Whether every block is decided.
+    pub fn is_complete(&self) -> bool
+        ensures { λ r. ⌜ r ≡ eqb (model (now (self .entry)) .decided) (length (model (now (self .entry)) .opened)) ⌝ }
+    {
+        self.decided == self.blocks
+    }
+
+    // Whether the row is dead: one of its masks is empty.
+    pub fn is_dead(&self) -> bool
+        ensures { λ r. ⌜ r ≡ dead (model (now (self .entry))) ⌝ }
+    {
+        for block in 0..self.blocks {
+            if self.present[block] == 0 {
+                return true;
+            }
+        }
+        false
+    }
+
+    // Whether the next block has a slot.
+    pub fn offers(&self, slot: u8) -> bool
+        ensures { λ r. ⌜ r ≡ (ltb slot 32 && has (next-mask (model (now (self .entry)))) slot) ⌝ }
+    {
+        has_slot(self.present_mask(self.decided), slot)
+    }
+
+    // The first slot of the next block that is not below `from`.
+    pub fn offer_from(&self, from: u8) -> Option<u8>
+        ensures { λ r. ⌜ r ≡ first-of (slots-from (next-mask (model (now (self .entry)))) from) ⌝ }
+    {
+        slot_from(self.present_mask(self.decided), from)
+    }
+}
