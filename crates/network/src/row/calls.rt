@@ -2,8 +2,9 @@
 ghost use Prim.Native.Nat.{suc};
 ghost use Rattle.network.specs.Offers.{first-of, slots-from};
 ghost use Rattle.network.specs.RowModel.{model};
-ghost use Rattle.network.specs.Rows.{dead, next-mask};
+ghost use Rattle.network.specs.Rows.{dead, decide, keep, next-mask};
 ghost use Rattle.network.specs.Sheets.{has};
+ghost use Rattle.std.specs.Orderings.{When};
 ghost use lib.Dec.{eqb, ltb};
 ghost use lib.ListN.{getD, length};
 ghost use mathlib.Core.Bool.{_&&_};
@@ -80,5 +81,33 @@ impl Row {
         ensures { λ r. ⌜ r ≡ first-of (slots-from (next-mask (model (now (self .entry)))) from) ⌝ }
     {
         slot_from(self.present_mask(self.decided), from)
+    }
+
+    // The next block takes one of its slots. For any other slot the row stays as it is, and the answer is false.
+    pub fn decide(&mut self, slot: u8) -> bool
+        ensures offered { λ r. ⌜ r ≡ (ltb slot 32 && has (next-mask (model (now (self .entry)))) slot) ⌝ }
+        ensures row { λ r. ⌜ When r (model (now (self .exit)) ≡ decide (model (now (self .entry))) slot) (now (self .exit) ≡ now (self .entry)) ⌝ }
+    {
+        if !self.offers(slot) {
+            return false;
+        }
+        self.present[self.decided] = 1 << slot;
+        self.decided += 1;
+        true
+    }
+
+    // A block keeps only the slots of a mask. Where none is left, the row is wiped; a block that isn't there changes nothing.
+    pub fn keep(&mut self, block: usize, mask: u32)
+        ensures { λ _. ⌜ model (now (self .exit)) ≡ keep (model (now (self .entry))) block mask ⌝ }
+    {
+        if block >= self.blocks {
+            return;
+        }
+        let left = self.present[block] & mask;
+        if left == 0 {
+            self.present = [0; 32];
+        } else {
+            self.present[block] = left;
+        }
     }
 }
