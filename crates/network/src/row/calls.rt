@@ -1,9 +1,11 @@
 // What a row tells of itself, and how it is made, decided and narrowed.
 ghost use Prim.Native.Nat.{suc};
+ghost use Rattle.network.specs.Laws.{LawfulRow};
 ghost use Rattle.network.specs.Offers.{first-of, slots-from};
-ghost use Rattle.network.specs.RowModel.{model};
+ghost use Rattle.network.specs.RowModel.{given, may-have, model};
 ghost use Rattle.network.specs.Rows.{dead, decide, keep, next-mask};
 ghost use Rattle.network.specs.Sheets.{has};
+ghost use Rattle.std.specs.Options.{Cases as BySome};
 ghost use Rattle.std.specs.Orderings.{When};
 ghost use lib.Dec.{eqb, ltb};
 ghost use lib.ListN.{getD, length};
@@ -13,7 +15,44 @@ use crate::mask::has_slot;
 use crate::mask::slot_from;
 use crate::row::Row;
 
+const BLOCKS: usize = 32;
+
+// Whether a block may have these masks in a row whose first present mask is `first`: where that is empty, all are.
+fn may_have(opened: u32, present: u32, first: u32, decided: bool) -> bool
+    ensures { λ r. ⌜ r ≡ may-have opened present first decided ⌝ }
+{
+    if first == 0 {
+        return present == 0;
+    }
+    present != 0 && present & opened == present && (!decided || present.count_ones() <= 1)
+}
+
 impl Row {
+    // The row of these masks with so many blocks decided, if there is one.
+    pub fn new(opened: &[u32], present: &[u32], decided: usize) -> Option<Row>
+        ensures { λ r. ⌜ BySome r (LawfulRow (given (now (opened .entry)) (now (present .entry)) decided) → ⊥) (λ row. model row ≡ given (now (opened .entry)) (now (present .entry)) decided) ⌝ }
+    {
+        let blocks = opened.len();
+        if blocks > BLOCKS || present.len() != blocks || decided > blocks {
+            return None;
+        }
+        let mut opened_masks = [0; BLOCKS];
+        let mut present_masks = [0; BLOCKS];
+        for block in 0..blocks {
+            if !may_have(opened[block], present[block], present[0], block < decided) {
+                return None;
+            }
+            opened_masks[block] = opened[block];
+            present_masks[block] = present[block];
+        }
+        Some(Row {
+            blocks,
+            decided,
+            opened: opened_masks,
+            present: present_masks,
+        })
+    }
+
     // How many blocks the row has.
     pub fn blocks(&self) -> usize
         ensures { λ r. ⌜ r ≡ length (model (now (self .entry)) .opened) ⌝ }
