@@ -13,6 +13,7 @@ use crate::tried::with_alone;
 use network::mask::SLOTS;
 use network::mask::has_slot;
 use network::mask::single;
+use network::mask::slot_from;
 
 // Whether each mask has a slot.
 fn all_filled(masks: &[u32]) -> bool
@@ -53,13 +54,12 @@ fn some_distinct(masks: &[u32], q: usize, used: u32) -> bool
     if q >= masks.len() {
         return true;
     }
-    for s in 0..SLOTS {
-        if has_slot(masks[q], s)
-            && !has_slot(used, s)
-            && some_distinct(masks, q + 1, used | single(s))
-        {
+    let mut from = 0;
+    while let Some(s) = slot_from(masks[q], from) {
+        if !has_slot(used, s) && some_distinct(masks, q + 1, used | single(s)) {
             return true;
         }
+        from = s + 1;
     }
     false
 }
