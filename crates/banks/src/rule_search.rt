@@ -1,11 +1,12 @@
 // Whether masks have a choice of one slot each that a rule allows.
-ghost use Prim.Native.Nat.{_≤_};
+ghost use Prim.Native.Nat.{_^_, _≤_};
 ghost use Rattle.banks.specs.Rules.{Alone, all-same, allowed-by, free, rule-sheet};
 ghost use Rattle.network.specs.Sheets.{choices, some-pass, supported};
 ghost use Rattle.std.specs.shelf.Lawful.{all-pass};
-ghost use lib.Dec.{eqb};
+ghost use lib.Bits.{bitOr};
+ghost use lib.Dec.{eqb, ltb};
 ghost use lib.ListN.{drop};
-ghost use mathlib.Core.Bool.{not};
+ghost use mathlib.Core.Bool.{cond, not};
 ghost use mathlib.Core.Path.{_≡_};
 use crate::rule::Rule;
 use crate::rule::RuleRecord;
@@ -47,6 +48,13 @@ fn some_unequal(masks: &[u32], p: usize) -> bool
     all_filled(masks) && some_other(masks, masks[p])
 }
 
+// The slots of `used`, and slot `s`.
+fn with_slot(used: u32, s: u8) -> u32
+    ensures { λ r. ⌜ r ≡ bitOr used (cond (ltb s 32) (2 ^ s) 0) ⌝ }
+{
+    used | single(s)
+}
+
 // Whether slots that all differ, and are none of `used`, can be chosen from the masks from position `q` on.
 fn some_distinct(masks: &[u32], q: usize, used: u32) -> bool
     ensures { λ r. ⌜ r ≡ some-pass (free used) (choices (drop q (now (masks .entry)))) ⌝ }
@@ -56,7 +64,7 @@ fn some_distinct(masks: &[u32], q: usize, used: u32) -> bool
     }
     let mut from = 0;
     while let Some(s) = slot_from(masks[q], from) {
-        if !has_slot(used, s) && some_distinct(masks, q + 1, used | single(s)) {
+        if !has_slot(used, s) && some_distinct(masks, q + 1, with_slot(used, s)) {
             return true;
         }
         from = s + 1;

@@ -1,9 +1,10 @@
 // The tests of a sheet's scope that tables and rules share.
+ghost use Prim.Native.Nat.{_≤_};
 ghost use Rattle.banks.specs.Verdicts.{first-blocks};
 ghost use Rattle.network.specs.Sheets.{some-pass};
 ghost use Rattle.std.specs.shelf.Lawful.{all-pass, distinct-test};
 ghost use lib.Dec.{eqb, ltb};
-ghost use lib.ListN.{getD};
+ghost use lib.ListN.{getD, take};
 ghost use mathlib.Core.Path.{_≡_};
 use network::mask::SLOTS;
 
@@ -61,4 +62,12 @@ pub fn block_at(arity: u8, blocks: &[u8; 6], p: usize) -> u8
     } else {
         NO_BLOCK
     }
+}
+
+// The blocks that a scope of that arity has: the others are not looked at.
+pub fn scope_of(arity: usize, blocks: &[u8; 6]) -> &[u8]
+    requires { ⌜ arity ≤ 6 ⌝ }
+    ensures { λ r. ⌜ now r ≡ take arity (now (blocks .entry)) ⌝ }
+{
+    &blocks[0..arity]
 }

@@ -6,6 +6,7 @@ use crate::scope::MAX_SHEETS;
 use crate::scope::MIN_ARITY;
 use crate::scope::all_distinct;
 use crate::scope::all_in_range;
+use crate::scope::scope_of;
 use crate::tuples::Tuples;
 use network::refusal::Refusal;
 
@@ -39,7 +40,7 @@ fn check_table(line: &TableRecord, cells: &[u8]) -> Result<(), Refusal>
     if line.first > cells.len() || size > cells.len() - line.first {
         return Err(Refusal::PlaceTooShort);
     }
-    let scope = &line.blocks[0..arity];
+    let scope = scope_of(arity, &line.blocks);
     let table = &cells[line.first..line.first + size];
     if !all_in_range(scope) || !all_in_range(table) {
         return Err(Refusal::OutOfRange);

@@ -5,6 +5,7 @@ ghost use Rattle.banks.specs.TablesHold.{Fine};
 ghost use Rattle.network.specs.Sheets.{choices, some-pass, supported};
 ghost use Rattle.std.specs.Options.{Cases as BySome, isSome};
 ghost use Rattle.std.specs.shelf.Lists.{countBy};
+ghost use lib.Dec.{ltb};
 ghost use lib.ListN.{length};
 ghost use mathlib.Core.Bool.{true};
 ghost use mathlib.Core.Path.{_≡_};
@@ -50,6 +51,15 @@ impl<'a> Tuples<'a> {
         count
     }
 
+    // Whether fewer tuples are inside the masks than the masks have choices. With more choices than tuples, none is counted.
+    fn fewer_inside(&self, masks: &[u32]) -> bool
+        requires { ⌜ length (now masks) ≡ now self .arity ⌝ }
+        ensures { λ r. ⌜ r ≡ ltb (countBy (inside (now (masks .entry))) (tuples-in (now (self .entry) .arity) (now (self .entry) .count) (now (now (self .entry) .cells)))) (length (choices (now (masks .entry)))) ⌝ }
+    {
+        let all = combinations(masks);
+        self.count < all || self.count_inside(masks) < all
+    }
+
     // Whether the masks have a choice that a table of these tuples allows.
     fn some_allowed(&self, kind: Kind, masks: &[u32]) -> bool
         requires { ⌜ climbs (tuples-in (now self .arity) (now self .count) (now (now self .cells))) ≡ true ⌝ ∗ ⌜ length (now masks) ≡ now self .arity ⌝ }
@@ -57,11 +67,7 @@ impl<'a> Tuples<'a> {
     {
         match kind {
             Kind::Allow => self.first_inside(masks).is_some(),
-            Kind::Deny => {
-                let all = combinations(masks);
-                // with more choices than tuples there is no need to count
-                self.count < all || self.count_inside(masks) < all
-            }
+            Kind::Deny => self.fewer_inside(masks),
         }
     }
 }
