@@ -2,17 +2,19 @@
 use Prim.Native.Nat.{_+_, _-_, _<_, _^_, _≤_, suc, zero, ℕ}
 use native.Mathlib.Nat.{add-suc}
 use native.Mathlib.Omega.{arith}
-use mathlib.Core.Bool.{_&&_, false}
+use mathlib.Core.Bool.{_&&_, cond, false}
 use mathlib.Core.List.{List, [], _++_, _∷_, map}
 use mathlib.Core.Logic.{inl, inr}
 use mathlib.Core.Path.{_∙_, _≡_, ap, refl, subst, sym}
 use lib.Dec.{ltb}
 use lib.ListN.{getD, length, length-append, length-map, length-take, set, take}
-use Rattle.std.proofs.shelf.Tests.{and-left, cases-lt, le-ltb}
+use Rattle.std.proofs.shelf.Tests.{and-left, cases-lt, cond-false, cond-true, le-ltb, lt-ltb}
 use Rattle.network.specs.Sheets.{Sheet, choices, sheet-at, some-pass, supported}
 use Rattle.network.specs.Laws.{LawfulBank, LawfulSheet}
 use Rattle.network.proofs.Members.{sheet-past}
-use Rattle.banks.specs.Both.{both}
+use Rattle.banks.specs.declared.place.Place.{Place}
+use Rattle.banks.specs.declared.place.Place.the-variants.{First, Nowhere, Second}
+use Rattle.banks.specs.Both.{both, place-of, sheet-from}
 
 -- a sheet supports nothing at a position past its scope
 pub unsupported : (sh : Sheet) (masks : List ℕ) (p s : ℕ) → length (sh .scope) ≤ p → supported sh masks p s ≡ false
@@ -56,6 +58,23 @@ module _ (m n : List Sheet) where
             | inl k ↦ subst LawfulSheet (sym (both-first c t k)) (a .each c k)
             | inr k ↦ subst LawfulSheet (sym (both-second c t k)) (b .each (c - length m) (omega arith))
           ]
+
+-- the sheet of a number is the one at its place
+pub sheet-placed : (m n : List Sheet) (c : ℕ) (p : Place) → p ≡ place-of (length m) c → sheet-at (both m n) c ≡ sheet-from m n p
+sheet-placed m n c p e = go ∙ ap (sheet-from m n) (sym e)
+  where
+    go : sheet-at (both m n) c ≡ sheet-from m n (place-of (length m) c)
+    go = elim (cases-lt c 1024) [
+      | inl l ↦
+          elim (cases-lt c (length m)) [
+            | inl k ↦ both-first m n c l k ∙ ap (sheet-from m n) (sym (placed-in l ∙ cond-true (ltb c (length m)) (First c) (Second (c - length m)) (lt-ltb c (length m) k)))
+            | inr k ↦ both-second m n c l k ∙ ap (sheet-from m n) (sym (placed-in l ∙ cond-false (ltb c (length m)) (First c) (Second (c - length m)) (le-ltb c (length m) k)))
+          ]
+      | inr l ↦ both-past m n c l ∙ ap (sheet-from m n) (sym (cond-false (ltb c 1024) (cond (ltb c (length m)) (First c) (Second (c - length m))) Nowhere (le-ltb c 1024 l)))
+    ]
+      where
+        placed-in : c < 1024 → place-of (length m) c ≡ cond (ltb c (length m)) (First c) (Second (c - length m))
+        placed-in l = cond-true (ltb c 1024) (cond (ltb c (length m)) (First c) (Second (c - length m))) Nowhere (lt-ltb c 1024 l)
 
 -- the sheets of records, by number
 pub sheet-map : {A : Type 0} (f : A → Sheet) (xs : List A) (c : ℕ) (d : A) → c < length xs → sheet-at (map f xs) c ≡ f (getD xs c d)

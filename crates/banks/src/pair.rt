@@ -1,9 +1,9 @@
 // Two banks as one: the first's sheets, then the second's, 1,024 of them at most.
-ghost use Rattle.banks.specs.Both.{both};
+ghost use Rattle.banks.specs.Both.{both, place-of};
 ghost use Rattle.banks.specs.SheetAt.{both-lawful};
-ghost use Rattle.network.specs.Sheets.{Sheet, sheet-at};
 ghost use lib.ListN.{length};
 ghost use mathlib.Core.Path.{_≡_};
+use crate::place::Place;
 use crate::scope::MAX_SHEETS;
 use crate::scope::NO_BLOCK;
 use network::bank::Bank;
@@ -12,6 +12,22 @@ use network::bank::Bank;
 pub struct Pair<A, B> {
     pub first: A,
     pub second: B,
+}
+
+impl<A: Bank, B: Bank> Pair<A, B> {
+    // Where sheet `c` of the pair stands.
+    fn place(&self, c: usize) -> Place
+        ensures { λ r. ⌜ r ≡ place-of (length (A·Bank .meaning (now (self .entry) .first))) c ⌝ }
+    {
+        let firsts = self.first.count();
+        if c >= MAX_SHEETS {
+            Place::Nowhere
+        } else if c < firsts {
+            Place::First(c)
+        } else {
+            Place::Second(c - firsts)
+        }
+    }
 }
 
 pub impl<A: Bank, B: Bank> Bank for Pair<A, B> as PairBank {
@@ -25,35 +41,26 @@ pub impl<A: Bank, B: Bank> Bank for Pair<A, B> as PairBank {
     }
 
     fn arity(&self, c: usize) -> usize {
-        let firsts = self.first.count();
-        if c >= MAX_SHEETS {
-            0
-        } else if c < firsts {
-            self.first.arity(c)
-        } else {
-            self.second.arity(c - firsts)
+        match self.place(c) {
+            Place::First(c) => self.first.arity(c),
+            Place::Second(c) => self.second.arity(c),
+            Place::Nowhere => 0,
         }
     }
 
     fn block(&self, c: usize, p: usize) -> u8 {
-        let firsts = self.first.count();
-        if c >= MAX_SHEETS {
-            NO_BLOCK
-        } else if c < firsts {
-            self.first.block(c, p)
-        } else {
-            self.second.block(c - firsts, p)
+        match self.place(c) {
+            Place::First(c) => self.first.block(c, p),
+            Place::Second(c) => self.second.block(c, p),
+            Place::Nowhere => NO_BLOCK,
         }
     }
 
     fn supports(&self, c: usize, masks: &[u32; 6], p: usize, s: u8) -> bool {
-        let firsts = self.first.count();
-        if c >= MAX_SHEETS {
-            false
-        } else if c < firsts {
-            self.first.supports(c, masks, p, s)
-        } else {
-            self.second.supports(c - firsts, masks, p, s)
+        match self.place(c) {
+            Place::First(c) => self.first.supports(c, masks, p, s),
+            Place::Second(c) => self.second.supports(c, masks, p, s),
+            Place::Nowhere => false,
         }
     }
 }
