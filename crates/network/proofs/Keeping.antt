@@ -1,42 +1,22 @@
 -- A block that keeps only the slots of a mask: the row is narrowed by that test.
-use Prim.Native.Nat.{_%_, _/_, _<_, _^_, _≤_, min, ℕ}
+use Prim.Native.Nat.{_<_, _^_, ℕ}
 use native.Mathlib.Omega.{arith}
 use mathlib.Core.Bool.{Bool, _&&_, _||_, false, not, true}
 use mathlib.Core.List.{List}
 use mathlib.Core.Logic.{inl, inr}
-use mathlib.Core.Path.{_∙_, _≡_, ap, ap₂, refl, subst, sym}
-use lib.Bits.{and-le-l, and-shr, and-step, bitAnd}
+use mathlib.Core.Path.{_∙_, _≡_, ap, refl, subst, sym}
+use lib.Bits.{and-le-l, bitAnd}
 use lib.Dec.{eqb}
 use lib.ListN.{getD, length, length-set, set}
 use Rattle.std.proofs.shelf.Lists.{ext-getD, getD-past, getD-set-other, getD-set-same}
 use Rattle.std.proofs.shelf.Tests.{cases-bool, cases-eq, cases-lt, eq-eqb, ne-eqb}
-use Rattle.std.proofs.shelf.Ways.{tells}
 use Rattle.network.specs.Sheets.{has}
 use Rattle.network.specs.Rows.{Row, dead, keep, narrowed-by, passing, wipe, with-present}
 use Rattle.network.specs.Laws.{LawfulRow}
 use Rattle.network.proofs.Masks.{has-none, same-masks}
+use Rattle.network.proofs.MaskBits.{has-and}
 use Rattle.network.proofs.Wiping.{wipe-live, wipe-long, wipe-zero}
 use Rattle.network.proofs.Narrowing.{narrowed-lawful, passing-below, passing-has, passing-long}
-
-bits-and : (x y : ℕ) → x < 2 → y < 2 → eqb (min x y) 1 ≡ (eqb x 1 && eqb y 1)
-bits-and x y l k = elim (cases-eq x 0) [
-  | inl e ↦ elim (cases-eq y 0) [
-    | inl f ↦ ap₂ (λ a b. eqb (min a b) 1) e f ∙ sym (ap₂ (λ a b. eqb a 1 && eqb b 1) e f)
-    | inr f ↦ (let g : y ≡ 1 = omega arith in ap₂ (λ a b. eqb (min a b) 1) e g ∙ sym (ap₂ (λ a b. eqb a 1 && eqb b 1) e g))
-  ]
-  | inr e ↦ (let h : x ≡ 1 = omega arith in elim (cases-eq y 0) [
-    | inl f ↦ ap₂ (λ a b. eqb (min a b) 1) h f ∙ sym (ap₂ (λ a b. eqb a 1 && eqb b 1) h f)
-    | inr f ↦ (let g : y ≡ 1 = omega arith in ap₂ (λ a b. eqb (min a b) 1) h g ∙ sym (ap₂ (λ a b. eqb a 1 && eqb b 1) h g))
-  ])
-]
-
--- the slots of both masks
-pub has-and : (a b s : ℕ) → has (bitAnd a b) s ≡ (has a s && has b s)
-has-and a b s =
-    let x : ℕ = a / 2 ^ s in
-    let y : ℕ = b / 2 ^ s in
-    let e : bitAnd x y % 2 ≡ min (x % 2) (y % 2) = omega (arith, and-step x y) in
-    ap (λ n. eqb (n % 2) 1) (and-shr a b s) ∙ ap (λ n. eqb n 1) e ∙ bits-and (x % 2) (y % 2) (omega arith) (omega arith)
 
 -- a lawful row's own masks are wiped already
 pub wipe-own : {r : Row} → LawfulRow r → with-present r (r .present) ≡ r

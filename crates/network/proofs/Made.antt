@@ -17,8 +17,8 @@ use Rattle.network.specs.Laws.{Bounded, LawfulRow}
 use Rattle.network.specs.RowModel.{given, may-have}
 use Rattle.network.proofs.Masks.{has-none, has-not, same-masks}
 use Rattle.network.proofs.Wiping.{empty-at, some-empty-at}
+use Rattle.network.proofs.MaskBits.{has-and}
 use Rattle.network.proofs.Rows.{slot-live}
-use Rattle.network.proofs.Keeping.{has-and}
 use Rattle.network.proofs.Ones.{ones-single, single-ones}
 
 -- what the test says of a block: an empty first mask makes the others empty

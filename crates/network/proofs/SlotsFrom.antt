@@ -1,7 +1,7 @@
 -- The slots of a mask from a slot on: the first of them, and those after it.
 use Prim.Native.Nat.{ℕ, zero, suc, _+_, _-_, _/_, _%_, _^_, _<_, _≤_}
-use mathlib.Core.Path.{_≡_, refl, sym, _∙_, ap}
-use mathlib.Core.Logic.{⊎-elim}
+use mathlib.Core.Path.{_≡_, refl, subst, sym, _∙_, ap}
+use mathlib.Core.Logic.{inl, inr, ⊎-elim}
 use mathlib.Core.Bool.{true, false, cond}
 use mathlib.Core.List.{List, [], _∷_}
 use native.Mathlib.Omega.{arith}
@@ -17,7 +17,7 @@ use Rattle.std.proofs.shelf.Bits.{shr-shr, shr-le, div-below}
 use Rattle.std.proofs.shelf.Tests.{cond-true, cond-false, eq-eqb, ne-eqb, cases-bool, both-ways, cases-lt}
 use Rattle.network.specs.Offers.{first-of, slots-from}
 use Rattle.network.specs.Sheets.{In, has, slots}
-use Rattle.network.proofs.Members.{of-counting, of-kept}
+use Rattle.network.proofs.Members.{false-unless, in-counting, in-kept, of-counting, of-kept}
 use Rattle.network.proofs.Masks.{has-next, has-none}
 
 pub slots-start : (m : ℕ) → slots m ≡ slots-from m 0
@@ -54,6 +54,10 @@ of-from m a s i =
     let k = of-kept (has m) (counting a (32 - a)) s i in
     let j = of-counting a (32 - a) s (k .0) in
     (j .0, omega arith, k .1)
+
+pub in-from : (m a s : ℕ) → a ≤ s → s < 32 → has m s ≡ true → In s (slots-from m a)
+unfolding slots-from
+in-from m a s l k h = in-kept (has m) (counting a (32 - a)) s (in-counting a (32 - a) s l (omega arith)) h
 
 -- what the first slot says of the list
 pub first-here : (m a t : ℕ) → a ≤ 32 → first-of (slots-from m a) ≡ Some t → (a ≤ t) × (t < 32) × (has m t ≡ true) × (slots-from m a ≡ t ∷ slots-from m (suc t))
@@ -127,3 +131,13 @@ from-zero m a h z =
     let d : a + (32 - a) ≡ 32 = omega arith in
     from-past m a (32 - a) (omega arith) (λ k p q. let i : a + (k - a) ≡ k = omega arith in ap (has m) (sym i) ∙ sym (has-shift m a (k - a)) ∙ ap (λ x. has x (k - a)) z ∙ has-none (k - a))
     ∙ from-end m (a + (32 - a)) (omega arith)
+
+-- the slots between are none of the mask's
+pub first-after : (m a t : ℕ) → a ≤ 32 → first-of (slots-from m a) ≡ Some t → (s : ℕ) → a ≤ s → s < t → has m s ≡ false
+first-after m a t h e s l k =
+    let f = first-here m a t h e in
+    false-unless (has m s) (λ i. elim (subst (In s) (f .3) (in-from m a s l (omega (arith, f .1)) i)) [ inl q ↦ omega arith | inr q ↦ omega (arith, of-from m (suc t) s q .0) ])
+
+-- where there is no first slot, there is none
+pub first-past : (m a : ℕ) → first-of (slots-from m a) ≡ None → (s : ℕ) → a ≤ s → s < 32 → has m s ≡ false
+first-past m a e s l k = false-unless (has m s) (λ i. subst (In s) (first-none m a e) (in-from m a s l k i))

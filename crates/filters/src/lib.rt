@@ -1,0 +1,3 @@
+// Six forward-checking filters.
+mod reading;
+mod sheet_set;
