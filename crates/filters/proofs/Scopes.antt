@@ -1,10 +1,11 @@
 -- The scopes of a lawful bank's sheets, also of one that isn't there: at most six different blocks, each at one place.
 use Prim.Native.Nat.{_<_, _≤_, suc, zero, ℕ}
 use native.Mathlib.Omega.{arith}
-use mathlib.Core.List.{List, [], _∷_}
+use mathlib.Core.List.{List, [], _∷_, map}
 use mathlib.Core.Logic.{inl, inr}
-use mathlib.Core.Path.{_∙_, _≡_, refl, subst, sym}
-use lib.ListN.{getD, length}
+use mathlib.Core.Path.{_∙_, _≡_, ap, refl, subst, sym}
+use lib.ListN.{getD, length, take}
+use Rattle.std.proofs.shelf.Lists.{take-all}
 use Rattle.std.proofs.shelf.Tests.{cases-lt}
 use Rattle.network.specs.Sheets.{Sheet, sheet-at}
 use Rattle.network.specs.Filters.{place}
@@ -37,3 +38,7 @@ place-is m bank c p l =
     let b : ℕ = getD xs p 255 in
     let k : place xs b < length xs = place-in xs b (in-at xs p 255 l) in
     bank .each c (sheet-there m c p l) .apart (place xs b) p k l (same-place xs (place xs b) 255 0 k ∙ place-at xs b k)
+
+-- masks gathered along a whole scope
+pub gathered : (f : ℕ → ℕ) (xs masks : List ℕ) (p : ℕ) → take p masks ≡ map f (take p xs) → length xs ≤ p → p ≤ length xs → take (length xs) masks ≡ map f xs
+gathered f xs masks p e l k = ap (λ n. take n masks) (omega arith) ∙ e ∙ ap (map f) (take-all p xs l)

@@ -1,3 +1,4 @@
 // Six forward-checking filters.
+mod narrowing;
 mod reading;
 mod sheet_set;

@@ -1,12 +1,11 @@
-use mathlib.Core.List.{map}
-use mathlib.Core.Path.{_∙_, ap, sym}
+use mathlib.Core.Path.{_∙_, ap}
 use native.Mathlib.Omega.{arith}
-use lib.ListN.{getD, length, length-set, take}
-use Rattle.std.proofs.shelf.Lists.{map-more, take-all, take-more-set}
+use lib.ListN.{length-set}
+use Rattle.std.proofs.shelf.Lists.{map-more, take-more-set}
 use Rattle.network.specs.RowModel.{model}
 use Rattle.network.specs.Sheets.{sheet-at}
 use Rattle.filters.specs.Readings.{mask-by}
-use Rattle.filters.proofs.Scopes.{at-most-six}
+use Rattle.filters.proofs.Scopes.{at-most-six, gathered}
 use Rattle.filters.proofs.reading.Reading.masks.Needs as need
 
 pub offset-masks-p : need.offset-masks-p
@@ -32,7 +31,5 @@ loop-p-again g c =
 
 pub returns : need.returns
 returns g c =
-    let xs = sheet-at (g .B·Bank .meaning (c .args .bank .now)) (c .args .c) .scope in
-    let p = c .loop-p .p in
-    ap (λ n. take n (c .loop-p .masks)) (omega (arith, c .arity-p-end .ensures, c .loop-p-test .left, c .loop-p .kept .p-end)) ∙ c .loop-p .inv .1
-    ∙ ap (map (mask-by (c .args .self) (model (c .args .row .now)))) (take-all p xs (omega (arith, c .arity-p-end .ensures, c .loop-p-test .left)))
+    gathered (mask-by (c .args .self) (model (c .args .row .now))) (sheet-at (g .B·Bank .meaning (c .args .bank .now)) (c .args .c) .scope) (c .loop-p .masks) (c .loop-p .p) (c .loop-p .inv .1)
+    (omega (arith, c .arity-p-end .ensures, c .loop-p-test .left)) (omega (arith, c .arity-p-end .ensures, c .loop-p .kept .p-end))
