@@ -1,3 +1,6 @@
 pub mod Naming
 pub mod Scopes
 pub mod Supported
+pub mod Asking
+pub mod Sparing
+pub mod Walked
