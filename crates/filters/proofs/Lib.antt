@@ -4,3 +4,4 @@ pub mod Supported
 pub mod Asking
 pub mod Sparing
 pub mod Walked
+pub mod Passing
