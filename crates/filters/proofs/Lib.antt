@@ -5,3 +5,4 @@ pub mod Asking
 pub mod Sparing
 pub mod Walked
 pub mod Passing
+pub mod Applied

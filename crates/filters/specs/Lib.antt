@@ -1,3 +1,5 @@
 pub mod Sets
 pub mod Readings
 pub mod Effects
+pub mod Nfcs
+pub mod NfcLaws
