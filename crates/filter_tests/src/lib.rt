@@ -1,4 +1,5 @@
-// Tests of the filters, over a bank of one sheet that wants the same slot at blocks 0 and 1.
-pub mod same_bank;
+// Examples of what the six filters leave.
+#[cfg(test)]
+mod rows;
 #[cfg(test)]
 mod tests;

@@ -1,84 +1,123 @@
-// What each filter leaves of a row, where blocks 0 and 1 have to take the same slot.
-use crate::same_bank::SameAsBank;
-use crate::same_bank::SameBank;
+// The filters over the example network, at each row of the list, and over 32 blocks.
+use crate::rows::CASES;
+use banks::rule::Rule;
+use banks::rule::RuleRecord;
+use banks::rule_bank::RuleBank;
+use banks::rule_bank::RulesAsBank;
+use banks::table_bank::TableBank;
+use banks::table_bank::TablesAsBank;
 use filters::nfc::Nfc;
 use filters::nfc::NfcFilter;
+use network::bank::Bank;
 use network::filter::Filter;
 use network::row::Row;
+use six_blocks::CELLS;
+use six_blocks::OPEN;
+use six_blocks::TABLES;
 use std::test::*;
 
 const FILTERS: u8 = 6;
 
-// The present mask of a block in the row that a filter leaves.
-fn left_at(
+fn filtered<B: Bank>(
     number: u8,
+    bank: &B,
     opened: &[u32],
     present: &[u32],
     decided: usize,
-    block: usize,
-) -> Option<u32> {
+) -> Option<Row> {
     let mut filter = Nfc::from_number(number)?;
     let mut row = Row::new(opened, present, decided)?;
-    filter.apply(&SameBank, &mut row);
-    Some(row.present_mask(block))
+    filter.apply(bank, &mut row);
+    Some(row)
+}
+
+// Whether the row has these present masks, one a block.
+fn has_masks(row: &Row, masks: &[u32]) -> bool {
+    for (block, mask) in masks.iter().enumerate() {
+        if row.present_mask(block) != *mask {
+            return false;
+        }
+    }
+    row.blocks() == masks.len()
 }
 
 #[test]
-fn numbers_go_from_zero_to_five() -> Result<(), Fail> {
+fn rows_of_the_example() -> Result<(), Fail> {
+    let bank = TableBank::new(&TABLES, &CELLS);
+    for (i, case) in CASES.iter().enumerate() {
+        let n = case.blocks.min(6);
+        for (number, left) in case.left.iter().enumerate() {
+            let Some(row) = filtered(
+                number as u8,
+                &bank,
+                &OPEN[0..n],
+                &case.present[0..n],
+                case.decided,
+            ) else {
+                return Err(Fail::new("no row"));
+            };
+            if !has_masks(&row, &left[0..n]) || row.decided() != case.decided {
+                return check_eq((i, number), (CASES.len(), 0)).note(
+                    "the case and the filter, from 0",
+                );
+            }
+        }
+    }
+    Ok(())
+}
+
+#[test]
+fn numbers() -> Result<(), Fail> {
     for number in 0..FILTERS {
         check_eq(
             Nfc::from_number(number).ok_or("no such filter")?.number(),
             number,
         )?;
     }
-    check(Nfc::from_number(FILTERS).is_none())
+    check(Nfc::from_number(FILTERS).is_none())?;
+    check(Nfc::from_number(255).is_none())
+}
+
+const RULES: [RuleRecord; 2] = [
+    RuleRecord {
+        rule: Rule::NotEqual,
+        arity: 2,
+        blocks: [31, 0, 0, 0, 0, 0],
+    },
+    RuleRecord {
+        rule: Rule::AllDiff,
+        arity: 6,
+        blocks: [0, 5, 10, 15, 20, 31],
+    },
+];
+
+#[test]
+fn thirty_two_blocks() -> Result<(), Fail> {
+    let bank = RuleBank::new(&RULES);
+    let mut present = [0x8000_0001; 32];
+    present[0] = 1;
+    for number in 0..FILTERS {
+        let Some(row) = filtered(number, &bank, &[0xffff_ffff; 32], &present, 1) else {
+            return Err(Fail::new("no row"));
+        };
+        // the last block loses slot 0; six different slots are then too many, but for nFC0, which does not ask, and nFC1, which asks by open masks
+        let last = if number < 2 { 0x8000_0000 } else { 0 };
+        check_eq(row.present_mask(31), last)?;
+    }
+    check(Row::new(&[7; 33], &[7; 33], 0).is_none())
 }
 
 #[test]
-fn an_undecided_block_keeps_the_slot_with_a_support() -> Result<(), Fail> {
-    for number in 0..FILTERS {
-        check_eq(left_at(number, &[7, 7, 7], &[2, 7, 7], 1, 0), Some(2))?;
-        check_eq(left_at(number, &[7, 7, 7], &[2, 7, 7], 1, 1), Some(2))?;
-        check_eq(left_at(number, &[7, 7, 7], &[2, 7, 7], 1, 2), Some(7))?;
-    }
-    Ok(())
-}
-
-#[test]
-fn a_row_dies_whole() -> Result<(), Fail> {
-    for number in 0..FILTERS {
-        check_eq(left_at(number, &[7, 4, 7], &[1, 4, 7], 1, 0), Some(0))?;
-        check_eq(left_at(number, &[7, 4, 7], &[1, 4, 7], 1, 2), Some(0))?;
-    }
-    Ok(())
-}
-
-#[test]
-fn a_sheet_with_a_block_not_in_the_row_is_passed_over() -> Result<(), Fail> {
-    for number in 0..FILTERS {
-        check_eq(left_at(number, &[7], &[2], 1, 0), Some(2))?;
-    }
-    Ok(())
-}
-
-#[test]
-fn a_row_with_none_or_all_decided_and_a_dead_row_stay() -> Result<(), Fail> {
-    for number in 0..FILTERS {
-        check_eq(left_at(number, &[1, 2], &[1, 2], 0, 1), Some(2))?;
-        check_eq(left_at(number, &[1, 2], &[1, 2], 2, 1), Some(2))?;
-        check_eq(left_at(number, &[1, 2], &[0, 0], 1, 1), Some(0))?;
-    }
-    Ok(())
-}
-
-#[test]
-fn thirty_two_blocks_and_no_more() -> Result<(), Fail> {
-    let opened = [7; 32];
-    let mut present = [7; 32];
-    present[0] = 4;
-    for number in 0..FILTERS {
-        check_eq(left_at(number, &opened, &present, 1, 1), Some(4))?;
-        check_eq(left_at(number, &opened, &present, 1, 31), Some(7))?;
-    }
-    check_eq(left_at(0, &[7; 33], &[7; 33], 0, 0), None)
+fn lawful_rows_only() -> Result<(), Fail> {
+    check(Row::new(&[], &[], 0).is_some())?;
+    check(Row::new(&[3, 3], &[1, 2], 2).is_some())?;
+    check(Row::new(&[3, 3], &[0, 0], 2).is_some())?;
+    check(Row::new(&[0, 3], &[0, 0], 0).is_some())?;
+    // another number of masks, too many decided, a slot that is not open, one empty mask, two slots decided
+    check(Row::new(&[3, 3], &[1], 0).is_none())?;
+    check(Row::new(&[3, 3], &[1, 2], 3).is_none())?;
+    check(Row::new(&[3, 3], &[1, 4], 0).is_none())?;
+    check(Row::new(&[3, 3], &[1, 0], 0).is_none())?;
+    check(Row::new(&[3, 3], &[0, 1], 0).is_none())?;
+    check(Row::new(&[3, 3], &[1, 3], 2).is_none())
 }

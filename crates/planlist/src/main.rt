@@ -1,17 +1,17 @@
-// Prints the example network: each sheet with its scope and, for each position, the slots that have a support.
-mod example;
-mod show;
+// Shows the example network: what its sheets support, and what each filter leaves of a row.
+mod filtering;
+mod sheets;
 
-use crate::example::CELLS;
-use crate::example::OPEN;
-use crate::example::RULES;
-use crate::example::TABLES;
 use banks::pair::Pair;
 use banks::pair::PairBank;
 use banks::rule_bank::RuleBank;
 use banks::rule_bank::RulesAsBank;
 use banks::table_bank::TableBank;
 use banks::table_bank::TablesAsBank;
+use six_blocks::CELLS;
+use six_blocks::OPEN;
+use six_blocks::RULES;
+use six_blocks::TABLES;
 use std::io;
 
 fn main(rt: LibcRuntime) -> io::Result<()> {
@@ -19,5 +19,6 @@ fn main(rt: LibcRuntime) -> io::Result<()> {
         first: TableBank::new(&TABLES, &CELLS),
         second: RuleBank::new(&RULES),
     };
-    show::sheets(&rt, &bank, &OPEN)
+    sheets::show(&rt, &bank, &OPEN)?;
+    filtering::show(&rt, &bank.first, &OPEN)
 }

@@ -79,7 +79,7 @@ fn sheet<B: Bank>(rt: &LibcRuntime, bank: &B, c: usize, opened: &[u32]) -> io::R
 }
 
 // Every sheet with its scope and, for each position, the slots that have a support under the open masks.
-pub(crate) fn sheets<B: Bank>(rt: &LibcRuntime, bank: &B, opened: &[u32]) -> io::Result<()> {
+pub(crate) fn show<B: Bank>(rt: &LibcRuntime, bank: &B, opened: &[u32]) -> io::Result<()> {
     for c in 0..bank.count() {
         sheet(rt, bank, c, opened)?;
     }

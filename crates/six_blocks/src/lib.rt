@@ -1,4 +1,5 @@
-// The example network: six blocks with slots 0 to 2 open, three allow tables and two rules.
+// The example network, as the program shows it and tests use it: six blocks with slots 0 to 2 open and three allow tables.
+// Two rules stand beside it, to show a pair of banks.
 use banks::rule::Rule;
 use banks::rule::RuleRecord;
 use banks::table::Kind;

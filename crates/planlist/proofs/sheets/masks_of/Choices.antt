@@ -2,7 +2,7 @@ use Prim.Native.Nat.{_<_, ℕ}
 use mathlib.Core.Path.{_≡_}
 use lib.ListN.{getD, length}
 use Rattle.network.specs.Sheets.{sheet-at}
-use Rattle.planlist.proofs.show.masks_of.Given as given
+use Rattle.planlist.proofs.sheets.masks_of.Given as given
 
 abbrev pub Inv-loop-p : given.InvT-loop-p
 Inv-loop-p g l =
