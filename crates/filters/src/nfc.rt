@@ -32,23 +32,29 @@ pub enum Nfc {
     Nfc5,
 }
 
+fn by_number(number: u8) -> Option<Nfc>
+    ensures { λ r. ⌜ BySome r (6 ≤ number) (λ f. number-of f ≡ number) ⌝ }
+{
+    match number {
+        0 => Some(Nfc::Nfc0),
+        1 => Some(Nfc::Nfc1),
+        2 => Some(Nfc::Nfc2),
+        3 => Some(Nfc::Nfc3),
+        4 => Some(Nfc::Nfc4),
+        5 => Some(Nfc::Nfc5),
+        _ => None,
+    }
+}
+
 impl Nfc {
-    // The filter of a number from 0 to 5.
+    // The filter of a number from 0 to 5. Its clauses hold of all six: how their nodes lie within one another, and what they leave of the example network.
     pub fn from_number(number: u8) -> Option<Nfc>
         ensures numbered { λ r. ⌜ BySome r (6 ≤ number) (λ f. number-of f ≡ number) ⌝ }
         ensures nested { λ _. ⌜ Nested ⌝ }
         ensures rows { λ _. ⌜ ExampleRows ⌝ }
         ensures nodes { λ _. ⌜ ExampleNodes ⌝ }
     {
-        match number {
-            0 => Some(Nfc::Nfc0),
-            1 => Some(Nfc::Nfc1),
-            2 => Some(Nfc::Nfc2),
-            3 => Some(Nfc::Nfc3),
-            4 => Some(Nfc::Nfc4),
-            5 => Some(Nfc::Nfc5),
-            _ => None,
-        }
+        by_number(number)
     }
 
     pub fn number(self) -> u8
