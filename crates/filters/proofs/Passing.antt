@@ -112,19 +112,19 @@ module _ {reading : Reading} {set : SheetSet} {m : List Sheet} {r q : Row} {c : 
     same = set-picking set .same q r (sheet-at m c) (uq .same-opened) (uq .same-decided)
 
     -- a sheet of another set is passed by
-    pub passed-other : picks-of set q (sheet-at m c) ≡ false → Passed reading set m r q (c + 1) effect
+    pub passed-other : false ≡ picks-of set q (sheet-at m c) → Passed reading set m r q (c + 1) effect
     passed-other e = record {
       row = w .row ∙ sym (ap (folded (step-by reading) r) (more
-          ∙ ap (λ xs. kept-by (picks-of set r) (take c m) ++ xs) (cond-false (picks-of set r (sheet-at m c)) (sheet-at m c ∷ []) [] (sym same ∙ e)))
+          ∙ ap (λ xs. kept-by (picks-of set r) (take c m) ++ xs) (cond-false (picks-of set r (sheet-at m c)) (sheet-at m c ∷ []) [] (sym (e ∙ same))))
           ∙ fold-append (step-by reading) r (kept-by (picks-of set r) (take c m)) []);
       told = w .told;
     }
 
-    module _ (e : picks-of set q (sheet-at m c) ≡ true) (p : Row) (s : p ≡ step-by reading q (sheet-at m c)) where
+    module _ (e : true ≡ picks-of set q (sheet-at m c)) (p : Row) (s : p ≡ step-by reading q (sheet-at m c)) where
       -- the step on a sheet of the set
       stepped : p ≡ folded (step-by reading) r (kept-by (picks-of set r) (take (c + 1) m))
       stepped = s ∙ ap (λ x. step-by reading x (sheet-at m c)) (w .row) ∙ sym (ap (folded (step-by reading) r) (more
-          ∙ ap (λ xs. kept-by (picks-of set r) (take c m) ++ xs) (cond-true (picks-of set r (sheet-at m c)) (sheet-at m c ∷ []) [] (sym same ∙ e)))
+          ∙ ap (λ xs. kept-by (picks-of set r) (take c m) ++ xs) (cond-true (picks-of set r (sheet-at m c)) (sheet-at m c ∷ []) [] (sym (e ∙ same))))
           ∙ folded-push (step-by reading) r (kept-by (picks-of set r) (take c m)) (sheet-at m c))
 
       pub passed-same : p ≡ q → Passed reading set m r p (c + 1) effect

@@ -24,6 +24,10 @@ pub record Kept (f : ℕ → Bool) (mask left from : ℕ) : Type 0 where
 pub kept-start : (f : ℕ → Bool) (mask : ℕ) → Kept f mask 0 0
 kept-start f mask = record { below = omega arith; most = omega arith; slot = λ s l. has-none s ∙ ap (λ v. v && (has mask s && f s)) (sym (le-ltb s 0 (omega arith))) }
 
+-- the walk, at an equal mask
+pub kept-is : (f : ℕ → Bool) {mask x y from : ℕ} → x ≡ y → Kept f mask y from → Kept f mask x from
+kept-is f {mask} {x} {y} {from} e k = subst (λ z. Kept f mask z from) (sym e) k
+
 module _ {f : ℕ → Bool} {mask left from : ℕ} (k : Kept f mask left from) where
   -- at the end all have been seen
   pub kept-end : first-of (slots-from mask from) ≡ None → left ≡ mask-of (λ s. has mask s && f s)
@@ -50,23 +54,23 @@ module _ {f : ℕ → Bool} {mask left from : ℕ} (k : Kept f mask left from) w
         ∙ ap₂ (λ a b. a && b) (lt-ltb t (t + 1) (omega arith)) (ap₂ (λ a b. a && b) (first-here mask from t (k .most) e .2) h)
 
     -- the next slot does not pass
-    pub kept-less : f t ≡ false → Kept f mask left (t + 1)
+    pub kept-less : false ≡ f t → Kept f mask left (t + 1)
     kept-less h = record {
       below = k .below;
       most = omega (arith, first-here mask from t (k .most) e .1);
       slot = λ s l. k .slot s l ∙ elim (cases-eq s t) [
-        | inl q ↦ ap (λ v. v && (has mask s && f s)) (le-ltb s from (omega (arith, first-here mask from t (k .most) e .0))) ∙ refl ∙ sym (at-slot s q false h)
+        | inl q ↦ ap (λ v. v && (has mask s && f s)) (le-ltb s from (omega (arith, first-here mask from t (k .most) e .0))) ∙ refl ∙ sym (at-slot s q false (sym h))
         | inr d ↦ upto s l d
       ];
     }
 
     -- the next slot passes
-    pub kept-more : f t ≡ true → (x : ℕ) → x ≡ cond (ltb t 32) (2 ^ t) 0 → Kept f mask (bitOr left x) (t + 1)
+    pub kept-more : true ≡ f t → (x : ℕ) → x ≡ cond (ltb t 32) (2 ^ t) 0 → Kept f mask (bitOr left x) (t + 1)
     kept-more h x e₀ = let ex : x ≡ 2 ^ t = e₀ ∙ cond-true (ltb t 32) (2 ^ t) 0 (lt-ltb t 32 (first-here mask from t (k .most) e .1)) in record {
       below = or-lt 32 left x (k .below) (subst (λ y. y < 2 ^ 32) (sym ex) (pow-below t 32 (first-here mask from t (k .most) e .1)));
       most = omega (arith, first-here mask from t (k .most) e .1);
       slot = λ s l. has-or left x s ∙ ap₂ (λ a b. a || b) (k .slot s l) (ap (λ y. has y s) ex ∙ has-single t s) ∙ elim (cases-eq s t) [
-        | inl q ↦ ap (λ v. (ltb s from && (has mask s && f s)) || v) (eq-eqb t s (sym q)) ∙ or-yes (ltb s from && (has mask s && f s)) ∙ sym (at-slot s q true h)
+        | inl q ↦ ap (λ v. (ltb s from && (has mask s && f s)) || v) (eq-eqb t s (sym q)) ∙ or-yes (ltb s from && (has mask s && f s)) ∙ sym (at-slot s q true (sym h))
         | inr d ↦ ap (λ v. (ltb s from && (has mask s && f s)) || v) (ne-eqb t s (λ q. d (sym q))) ∙ or-no (ltb s from && (has mask s && f s)) ∙ upto s l d
       ];
     }

@@ -1,9 +1,8 @@
-use Prim.Native.Nat.{_+_}
-use mathlib.Core.Path.{_∙_, subst, sym}
+use mathlib.Core.Path.{_∙_, sym}
 use native.Mathlib.Omega.{arith}
 use Rattle.network.proofs.SlotsFrom.{first-here}
 use Rattle.network.specs.Sheets.{sheet-at, supported}
-use Rattle.filters.proofs.Supported.{Kept, kept-end, kept-less, kept-more}
+use Rattle.filters.proofs.Supported.{kept-end, kept-is, kept-less, kept-more}
 use Rattle.filters.proofs.narrowing.supported_slots.Needs as need
 use Rattle.filters.proofs.narrowing.supported_slots.Needs.{else-supports, then-supports}
 
@@ -21,8 +20,8 @@ loop-slot-again g c =
     let f = supported (sheet-at (g .B·Bank .meaning (c .args .bank .now)) (c .args .c)) (c .args .masks .now) (c .args .p) in
     let e = sym (c .in-Some .ensures tt) in
     elim (c .if-supports .came) [
-      | then-supports w ↦ subst (λ x. Kept f (c .args .mask) x (t + 1)) (sym (w .left-is)) (kept-more (c .loop-slot .inv) t e (sym (w .if-supports .ensures tt .test)) (w .single-left .result) (w .single-left .ensures))
-      | else-supports w ↦ subst (λ x. Kept f (c .args .mask) x (t + 1)) (sym (w .left-is)) (kept-less (c .loop-slot .inv) t e (sym (w .if-supports .ensures tt .test)))
+      | then-supports w ↦ kept-is f (w .left-is) (kept-more (c .loop-slot .inv) t e (w .if-supports .ensures tt .test) (w .single-left .result) (w .single-left .ensures))
+      | else-supports w ↦ kept-is f (w .left-is) (kept-less (c .loop-slot .inv) t e (w .if-supports .ensures tt .test))
     ]
 
 pub returns : need.returns

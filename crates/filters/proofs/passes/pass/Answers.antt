@@ -1,5 +1,4 @@
 use Prim.Native.Nat.{_<_}
-use mathlib.Core.Path.{sym}
 use native.Mathlib.Omega.{arith}
 use lib.ListN.{length}
 use Rattle.network.specs.RowModel.{model}
@@ -10,11 +9,11 @@ use Rattle.filters.proofs.passes.pass.Needs.{in-Narrowed, in-Unchanged}
 
 pub loop-c-again-then-not-picks : need.loop-c-again-then-not-picks
 loop-c-again-then-not-picks g c =
-    passed-other (lawful-code (c .args .row .now)) (c .loop-c .inv) (omega (arith, c .count-c-end .ensures, c .loop-c-test .taken)) (sym (c .if-not-picks .ensures tt))
+    passed-other (lawful-code (c .args .row .now)) (c .loop-c .inv) (omega (arith, c .count-c-end .ensures, c .loop-c-test .taken)) (c .if-not-picks .ensures tt)
 
 pub returns-in-Died : need.returns-in-Died
 returns-in-Died g c = record {
-  row = passed-died (lawful-code (c .args .row .now)) (c .loop-c .inv) (omega (arith, c .count-c-end .ensures, c .loop-c-test .taken)) (sym (c .if-not-picks .ensures tt)) (model (c .narrow .last .row))
+  row = passed-died (lawful-code (c .args .row .now)) (c .loop-c .inv) (omega (arith, c .count-c-end .ensures, c .loop-c-test .taken)) (c .if-not-picks .ensures tt) (model (c .narrow .last .row))
       (c .narrow .ensures .row) (c .in-Died .ensures tt .told);
   told = c .in-Died .ensures tt .told;
 }
@@ -24,7 +23,7 @@ loop-c-again g c =
     let lr = lawful-code (c .args .row .now) in
     let l : c .loop-c .c < length (g .B·Bank .meaning (c .args .bank .now)) = omega (arith, c .count-c-end .ensures, c .loop-c-test .taken) in
     let q = model (c .narrow .last .row) in
-    let e = sym (c .if-not-picks .ensures tt) in
+    let e = c .if-not-picks .ensures tt in
     elim (c .match-narrow .came) [
       | in-Unchanged w ↦ passed-as (w .effect-is) (passed-same lr (c .loop-c .inv) l e q (c .narrow .ensures .row) (w .in-Unchanged .ensures tt .told))
       | in-Narrowed w ↦ passed-as (w .effect-is) (passed-more lr (c .loop-c .inv) l e q (c .narrow .ensures .row) (w .in-Narrowed .ensures tt .told))
