@@ -7,14 +7,17 @@ ghost use mathlib.Core.Path.{_≡_};
 
 mod calls;
 
+// A row has at most so many blocks.
+pub const BLOCKS: usize = 32;
+
 // The first `blocks` masks of both arrays count. Every row is lawful: its present masks lie inside its open masks, one empty
 // present mask empties all, and no decided block has two slots.
 #[derive(Clone, Copy)]
 pub struct Row {
     blocks: usize,
     decided: usize,
-    opened: [u32; 32],
-    present: [u32; 32],
+    opened: [u32; BLOCKS],
+    present: [u32; BLOCKS],
     ghost few: { blocks ≤ 32 },
     ghost within: { decided ≤ blocks },
     ghost sized: { length (take blocks opened) ≡ blocks },

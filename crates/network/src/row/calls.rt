@@ -13,9 +13,8 @@ ghost use mathlib.Core.Bool.{_&&_};
 ghost use mathlib.Core.Path.{_≡_};
 use crate::mask::has_slot;
 use crate::mask::slot_from;
+use crate::row::BLOCKS;
 use crate::row::Row;
-
-const BLOCKS: usize = 32;
 
 // Whether a block may have these masks in a row whose first present mask is `first`: where that is empty, all are.
 fn may_have(opened: u32, present: u32, first: u32, decided: bool) -> bool
@@ -144,7 +143,7 @@ impl Row {
         }
         let left = self.present[block] & mask;
         if left == 0 {
-            self.present = [0; 32];
+            self.present = [0; BLOCKS];
         } else {
             self.present[block] = left;
         }
