@@ -1,0 +1,1 @@
+// Sessions: a network's plans, listed call by call.
