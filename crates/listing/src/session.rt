@@ -1,0 +1,10 @@
+// A session: a network's plans, listed in ascending order, call by call.
+use crate::listing::Listing;
+
+mod calls;
+
+// Blank until it is opened.
+#[derive(Clone, Copy)]
+pub struct Session {
+    listing: Listing,
+}
