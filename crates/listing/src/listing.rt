@@ -6,6 +6,8 @@ ghost use lib.ListN.{getD, length, take};
 ghost use mathlib.Core.Path.{_≡_};
 use crate::record::BlockRecord;
 
+mod root;
+
 // The first `blocks` records count, and the path's first `depth` slots. A blank session has no blocks.
 #[derive(Clone, Copy)]
 pub struct Listing {
