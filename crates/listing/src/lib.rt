@@ -4,3 +4,4 @@ mod listing;
 pub mod outcome;
 mod record;
 mod session;
+mod walk;

@@ -1,0 +1,20 @@
+// A walk over the nodes that are still to come: a stack of rows along a path.
+use network::row::Row;
+
+mod stack;
+
+// A place in a stack: a row, and a slot of its next block.
+#[derive(Clone, Copy)]
+pub struct Place {
+    pub depth: usize,
+    pub slot: u8,
+}
+
+// Row k has the path's first k slots decided, for k up to `depth`. The walk goes on from slot `from` of the deepest row's next block.
+#[derive(Clone, Copy)]
+pub struct Walk {
+    pub rows: [Row; 33],
+    pub path: [u8; 32],
+    pub depth: usize,
+    pub from: u8,
+}
