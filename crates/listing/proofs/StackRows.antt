@@ -1,6 +1,6 @@
 -- The rows of a stack as the code holds them.
 use Prim.Native.Nat.{ℕ, zero, suc, _<_}
-use mathlib.Core.Path.{_≡_, sym, _∙_, ap}
+use mathlib.Core.Path.{_≡_, refl, sym, _∙_, ap}
 use mathlib.Core.Bool.{Bool, _&&_, false, true}
 use mathlib.Core.List.{List, [], _∷_}
 use native.Mathlib.Omega.{arith}
@@ -27,10 +27,20 @@ pub rewritten : (rows : List CodeRow) (j : ℕ) (a b c : CodeRow) (v : Row) → 
 rewritten rows j a b c v e =
     ap models (set-set (set rows j a) j b c ∙ set-set rows j a c) ∙ map-set model rows j c ∙ ap (λ r. set (models rows) j r) e
 
-pub lawful-at : (rows : List CodeRow) (k : ℕ) → k < length rows → LawfulRow (row-at (models rows) k)
-lawful-at [] k h = absurd (omega arith)
-lawful-at (r ∷ rows) zero h = lawful-of (model r) (r .lawful)
-lawful-at (r ∷ rows) (suc k) h = lawful-at rows k (omega arith)
+-- every row of a stack is lawful, and so is the one that stands in for a row that isn't there
+pub lawful-at : (rows : List CodeRow) (k : ℕ) → LawfulRow (row-at (models rows) k)
+lawful-at [] k = record {
+  few = omega arith;
+  as-many = refl;
+  within = omega arith;
+  opened-masks = λ b. omega arith;
+  present-masks = λ b. omega arith;
+  inside = λ b s l h. h;
+  wiped = λ e b. refl;
+  single = λ e b l. absurd (omega arith);
+}
+lawful-at (r ∷ rows) zero = lawful-of (model r) (r .lawful)
+lawful-at (r ∷ rows) (suc k) = lawful-at rows k
 
 -- the row that deciding an offered slot leaves
 pub decided-so : (b : Bool) (new old : CodeRow) (v : Row) → b ≡ true → When b (model new ≡ v) (new ≡ old) → model new ≡ v

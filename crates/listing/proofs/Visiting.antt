@@ -25,6 +25,7 @@ pub visited-is :
     (p : Bool) → p ≡ (eqb (row-at qs (suc k) .decided) (length (row-at qs (suc k) .opened)) && not (dead (row-at qs (suc k)))) → Visited (F m) rs qs path way k s p
 visited-is F m rs path k s lf lb lr room inside small e qs q way w p t =
     record {
+      room = omega (arith, ap length w, length-set path k s);
       stacked = stack;
       slotted = λ h. subst (λ z. Slotted z (suc k)) (sym w) (slots h);
       came = λ n h.

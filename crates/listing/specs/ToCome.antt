@@ -77,6 +77,7 @@ node-at rs path k = record { path = take k path; row = row-at rs k }
 
 -- a visit of slot s of row k takes the stack rs and the path to qs and way
 pub record Visited (f : Row → Row) (rs qs : List Row) (path way : List ℕ) (k s : ℕ) (plan : Bool) : Type 0 where
+  pub room : suc k ≤ length way
   pub stacked : (n : ℕ) → Stacked n rs k → Stacked n qs (suc k)
   pub slotted : Slotted path k → Slotted way (suc k)
   pub came : (n : ℕ) → Stacked n rs k → to-come f n rs path k s ≡ node-at qs way (suc k) ∷ to-come f n qs way (suc k) 0

@@ -2,6 +2,7 @@
 use network::row::Row;
 
 mod stack;
+mod visits;
 
 // A place in a stack: a row, and a slot of its next block.
 #[derive(Clone, Copy)]

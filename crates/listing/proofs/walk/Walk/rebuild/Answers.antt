@@ -69,7 +69,7 @@ loop-k-again g c =
     let deep : length (w .rows) ≡ 33 = omega arith in
     let R = go-on F m os (models (w .rows)) (w .path) d k (subst (λ p. Rebuilding (F m) os (models (w .rows)) p d k) (sym (v .1)) (v .4))
     (length-take-le d (w .path) (omega (arith, long, c .pre .last)))
-    (g .F·Filter .lawful (c .args .filter .now)) (g .B·Bank .lawful (c .args .bank .now)) (lawful-at (w .rows) k (omega (arith, deep, c .pre .last, c .loop-k-test .taken)))
+    (g .F·Filter .lawful (c .args .filter .now)) (g .B·Bank .lawful (c .args .bank .now)) (lawful-at (w .rows) k)
     (omega (arith, length-map (w .rows) model, deep, c .pre .last, c .loop-k-test .taken)) (omega (arith, long, c .pre .last, c .loop-k-test .taken)) (c .loop-k-test .taken) small
     (has-read (w .rows) k (c .index-self-k .result) s _ (omega (arith, deep, c .pre .last, c .loop-k-test .taken)) small (c .if-not-offers .ensures tt))
     qs (c .descend .ensures .rows ∙ ap (λ H. set (models (w .rows)) (suc (w .depth)) (H m (decide (row-at (models (w .rows)) (w .depth)) s))) (v .0)

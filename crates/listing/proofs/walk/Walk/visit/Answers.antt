@@ -26,7 +26,7 @@ returns g c =
     record {
       node =
           visited-is (g .F·Filter .filtered (c .args .filter .now)) (g .B·Bank .meaning (c .args .bank .now)) (models (w .rows)) (w .path) k s
-          (g .F·Filter .lawful (c .args .filter .now)) (g .B·Bank .lawful (c .args .bank .now)) (lawful-at (w .rows) k (omega (arith, deep, c .pre .deep)))
+          (g .F·Filter .lawful (c .args .filter .now)) (g .B·Bank .lawful (c .args .bank .now)) (lawful-at (w .rows) k)
           (omega (arith, length-map (w .rows) model, deep, c .pre .deep)) (omega (arith, long, c .pre .deep)) (c .pre .slot) (c .pre .offered)
           (models (t .rows)) (c .descend .ensures .rows) (t .path) (c .descend .ensures .path)
           (c .shows-plan .result) (c .shows-plan .ensures ∙ ap (λ (r : Row). eqb (r .decided) (length (r .opened)) && not (dead r)) q);

@@ -1,0 +1,38 @@
+// The nodes that a call visits.
+ghost use Prim.Native.Nat.{_≤_};
+ghost use Rattle.listing.specs.ToCome.{Slotted, Stacked, models, to-come, width};
+ghost use Rattle.listing.specs.Walked.{Walked};
+use crate::outcome::Outcome;
+use crate::walk::Walk;
+use network::bank::Bank;
+use network::filter::Filter;
+
+impl Walk {
+    // Visits nodes up to the first that shows a plan, and no more than the budget. Answers how many it visited.
+    pub fn visit_nodes<B: Bank, F: Filter>(
+        &mut self,
+        bank: &B,
+        filter: &mut F,
+        budget: u32,
+    ) -> (Outcome, u32)
+        requires deep { ⌜ now self .depth ≤ width (models (now self .rows)) ⌝ }
+        requires from { ⌜ now self .from ≤ 32 ⌝ }
+        requires slots { ⌜ Slotted (now self .path) (now self .depth) ⌝ }
+        requires rows { ⌜ Stacked (width (models (now self .rows))) (models (now self .rows)) (now self .depth) ⌝ }
+        ensures { λ r. ⌜ Walked (width (models (now (self .entry) .rows))) (to-come (F·Filter .filtered (now (filter .entry)) (B·Bank .meaning (now (bank .entry)))) (width (models (now (self .entry) .rows))) (models (now (self .entry) .rows)) (now (self .entry) .path) (now (self .entry) .depth) (now (self .entry) .from)) budget (now (self .exit) .path) (now (self .exit) .depth) (r .0) (r .1) ⌝ }
+    {
+        let mut visits = 0;
+        loop {
+            let Some(place) = self.next_place() else {
+                return (Outcome::Done, visits);
+            };
+            if visits == budget {
+                return (Outcome::Spent, visits);
+            }
+            visits += 1;
+            if self.visit(bank, filter, place) {
+                return (Outcome::Plan, visits);
+            }
+        }
+    }
+}
