@@ -40,6 +40,7 @@ some-left f n rs path k a j s lr h p =
 -- what a visit at the next place leaves: one node fewer to come
 pub record Stepped (f : Row → Row) (n : ℕ) (rs qs : List Row) (path way : List ℕ) (k a d : ℕ) (b : Bool) : Type 0 where
   pub low : d ≤ n
+  pub room : d ≤ length way
   pub slotted : Slotted way d
   pub stacked : Stacked n qs d
   pub came : to-come f n rs path k a ≡ node-at qs way d ∷ to-come f n qs way d 0
@@ -50,6 +51,7 @@ pub stepped : {f : Row → Row} (n : ℕ) {rs qs : List Row} {path way : List �
     Visited f rs qs path way j s shown → Slotted path k → (d : ℕ) → d ≡ suc j → Stepped f n rs qs path way k a d shown
 stepped {f} n {rs} {qs} {path} {way} {k} {a} {j} {s} {shown} lr h p v slots d e = subst (λ z. Stepped f n rs qs path way k a z shown) (sym e) (record {
   low = low;
+  room = v .room;
   slotted = v .slotted (λ i l. slots i (omega (arith, p .within)));
   stacked = v .stacked n up;
   came = p .same f n ∙ v .came n up;

@@ -23,6 +23,7 @@ pub record Walking (f : Row → Row) (n : ℕ) (xs : List Node) (budget : ℕ) (
   pub stacked : Stacked n rs k
   pub slotted : Slotted path k
   pub inside : k ≤ n
+  pub room : 0 < v → k ≤ length path
   pub slot : a ≤ 32
   pub under : v ≤ budget
   pub outcome : ends n budget xs ≡ ends n (budget - v) (to-come f n rs path k a)
@@ -37,6 +38,7 @@ begin-walk f n budget rs path k a s t i l =
       stacked = s;
       slotted = t;
       inside = i;
+      room = λ p. absurd (omega arith);
       slot = l;
       under = omega arith;
       outcome = ap (λ b. ends n b (to-come f n rs path k a)) e;
@@ -87,6 +89,7 @@ module _ (f : Row → Row) (n : ℕ) (xs : List Node) (budget : ℕ) (rs : List 
     visits = sym (w .count ∙ ap (λ z. v + length (visited n (budget - v) z)) e ∙ ap (λ z. v + length z) (visited-none n (budget - v)) ∙ add-zero v);
     stop = λ last. w .stop last ∙ ap (stops n (budget - v) (reached v last (take k path))) e ∙ ap (folded (λ _ x. x .path) (reached v last (take k path))) (visited-none n (budget - v));
     deep = w .inside;
+    room = w .room;
     slotted = w .slotted;
     whole = λ p. absurd (not-plan done refl p);
   }
@@ -99,6 +102,7 @@ module _ (f : Row → Row) (n : ℕ) (xs : List Node) (budget : ℕ) (rs : List 
         visits = sym (w .count ∙ ap (λ b. v + length (visited n b (to-come f n rs path k a))) z ∙ add-zero v);
         stop = λ last. w .stop last ∙ ap (λ b. stops n b (reached v last (take k path)) (to-come f n rs path k a)) z;
         deep = w .inside;
+        room = w .room;
         slotted = w .slotted;
         whole = λ p. absurd (not-plan-spent spent refl p);
       }
@@ -123,6 +127,7 @@ module _ (f : Row → Row) (n : ℕ) (xs : List Node) (budget : ℕ) (rs : List 
           stop = λ last. w .stop last ∙ ap (stops n (budget - v) (reached v last (take k path))) (t .came) ∙ ap (λ i. stops n i (reached v last (take k path)) (x ∷ ys)) left
               ∙ stops-shown n (budget - (v + 1)) (reached v last (take k path)) x ys e ∙ reached-more v last (take d way);
           deep = t .low;
+          room = λ _. t .room;
           slotted = t .slotted;
           whole = λ _. (t .whole e₁, λ z. omega arith);
         }
@@ -134,6 +139,7 @@ module _ (f : Row → Row) (n : ℕ) (xs : List Node) (budget : ℕ) (rs : List 
           stacked = t .stacked;
           slotted = t .slotted;
           inside = t .low;
+          room = λ _. t .room;
           slot = omega arith;
           under = omega (arith, w .under, u);
           outcome = w .outcome ∙ ap (ends n (budget - v)) (t .came) ∙ ap (λ i. ends n i (x ∷ ys)) left ∙ ends-more n (budget - (v + 1)) x ys e;

@@ -1,5 +1,5 @@
 -- What a walk over the nodes that are left answers, and where it stops.
-use Prim.Native.Nat.{_≤_, ℕ}
+use Prim.Native.Nat.{_<_, _≤_, ℕ}
 use mathlib.Core.Bool.{cond}
 use mathlib.Core.List.{List}
 use mathlib.Core.Path.{_≡_}
@@ -34,5 +34,6 @@ pub record Walked (n : ℕ) (xs : List Node) (budget : ℕ) (path : List ℕ) (d
   pub visits : v ≡ length (visited n budget xs)
   pub stop : (last : List ℕ) → stops n budget last xs ≡ reached v last (take depth path)
   pub deep : depth ≤ n
+  pub room : 0 < v → depth ≤ length path
   pub slotted : Slotted path depth
   pub whole : outcome-named o ≡ plan → (depth ≡ n) × (v ≡ 0 → ⊥)

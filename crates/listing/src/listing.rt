@@ -7,6 +7,7 @@ ghost use mathlib.Core.Path.{_≡_};
 use crate::record::BlockRecord;
 
 mod root;
+mod walks;
 
 // The first `blocks` records count, and the path's first `depth` slots. A blank session has no blocks.
 #[derive(Clone, Copy)]
