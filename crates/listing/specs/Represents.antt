@@ -1,6 +1,6 @@
 -- Which state of the model a session stands for, and what its calls owe.
 use Prim.Native.Nat.{_<_, ℕ}
-use mathlib.Core.List.{List, [], _∷_}
+use mathlib.Core.List.{List, [], _++_, _∷_}
 use mathlib.Core.Path.{_≡_}
 use lib.ListN.{drop, length, take}
 use Rattle.std.specs.declared.option.Option.{Option}
@@ -70,15 +70,15 @@ abbrev pub walked-of : ℕ → List ℕ → Result (CodeOutcome × ℕ) Refusal 
 walked-of n place (Ok r) = walked (outcome-named (r .0)) (r .1) (if-plan (outcome-named (r .0)) (take n place) [])
 walked-of n place (Err e) = refused (number-of e)
 
--- what an outcome leaves of the plan place: all but its first n bytes, where a plan is written
-abbrev pub PlaceKept : Outcome → ℕ → List ℕ → List ℕ → Type 0
-PlaceKept plan n before after = drop n after ≡ drop n before
-PlaceKept done n before after = after ≡ before
-PlaceKept spent n before after = after ≡ before
+-- what an outcome leaves in the plan place, at n blocks: a plan fills its first n bytes, and all else stays
+abbrev pub PlaceAt : Outcome → ℕ → List ℕ → List ℕ → List ℕ → Type 0
+PlaceAt plan n node before after = after ≡ node ++ drop n before
+PlaceAt done n node before after = after ≡ before
+PlaceAt spent n node before after = after ≡ before
 
-abbrev pub PlaceAfter : ℕ → List ℕ → List ℕ → Result (CodeOutcome × ℕ) Refusal → Type 0
-PlaceAfter n before after (Ok r) = PlaceKept (outcome-named (r .0)) n before after
-PlaceAfter n before after (Err e) = after ≡ before
+abbrev pub PlaceAfter : ℕ → List ℕ → List ℕ → List ℕ → Result (CodeOutcome × ℕ) Refusal → Type 0
+PlaceAfter n node before after (Ok r) = PlaceAt (outcome-named (r .0)) n node before after
+PlaceAfter n node before after (Err e) = after ≡ before
 
 -- the nodes of a filter's tree in a session
 abbrev pub nodes-of : CodeListing → List Sheet → Filtering → List Node

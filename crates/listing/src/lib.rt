@@ -3,5 +3,5 @@ mod fits;
 mod listing;
 pub mod outcome;
 mod record;
-mod session;
+pub mod session;
 mod walk;

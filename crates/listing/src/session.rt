@@ -2,6 +2,7 @@
 use crate::listing::Listing;
 
 mod calls;
+mod next;
 
 // Blank until it is opened.
 #[derive(Clone, Copy)]

@@ -9,7 +9,7 @@ use network::row::Row;
 
 impl Listing {
     // Each block at its open mask, or at its pin alone. One empty mask empties all.
-    pub fn root(&self) -> Row
+    pub(super) fn root(&self) -> Row
         requires { ⌜ 0 < now self .blocks ⌝ }
         ensures { λ r. ⌜ model r ≡ root (opened-of (now (self .entry))) (pinned-of (now (self .entry))) ⌝ }
     {

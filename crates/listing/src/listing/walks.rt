@@ -11,7 +11,7 @@ use network::filter::Filter;
 
 impl Listing {
     // Walks on from the last node. It stays the last one where none is visited.
-    pub fn go_on<B: Bank, F: Filter>(
+    pub(crate) fn go_on<B: Bank, F: Filter>(
         &mut self,
         bank: &B,
         filter: &mut F,
@@ -38,7 +38,7 @@ impl Listing {
     }
 
     // Writes the path of a whole plan into the front of `place`.
-    pub fn write_plan(&self, place: &mut [u8])
+    pub(crate) fn write_plan(&self, place: &mut [u8])
         requires { ⌜ now self .blocks ≤ length (now place) ⌝ }
         ensures front { λ _. ⌜ take (now (self .entry) .blocks) (now (place .exit)) ≡ take (now (self .entry) .blocks) (now (self .entry) .path) ⌝ }
         ensures back { λ _. ⌜ drop (now (self .entry) .blocks) (now (place .exit)) ≡ drop (now (self .entry) .blocks) (now (place .entry)) ⌝ }

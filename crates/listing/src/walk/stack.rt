@@ -43,7 +43,7 @@ impl Walk {
     }
 
     // Goes down along the path's first `last` slots, as far as the rows have them, and goes on past them.
-    pub fn rebuild<B: Bank, F: Filter>(&mut self, bank: &B, filter: &mut F, last: usize)
+    pub(crate) fn rebuild<B: Bank, F: Filter>(&mut self, bank: &B, filter: &mut F, last: usize)
         requires start { ⌜ now self .depth ≡ 0 ⌝ }
         requires first { ⌜ now self .from ≡ 0 ⌝ }
         requires last { ⌜ last ≤ 32 ⌝ }
@@ -63,7 +63,7 @@ impl Walk {
     }
 
     // The place of the next node: the first slot that is left at the deepest row, or else past the path at the deepest one that has a slot left.
-    pub fn next_place(&self) -> Option<Place>
+    pub(super) fn next_place(&self) -> Option<Place>
         requires deep { ⌜ now self .depth ≤ 32 ⌝ }
         requires from { ⌜ now self .from ≤ 32 ⌝ }
         requires slots { ⌜ Slotted (now self .path) (now self .depth) ⌝ }
@@ -84,7 +84,12 @@ impl Walk {
     }
 
     // Visits the node at a place, and says whether it shows a plan.
-    pub fn visit<B: Bank, F: Filter>(&mut self, bank: &B, filter: &mut F, place: Place) -> bool
+    pub(super) fn visit<B: Bank, F: Filter>(
+        &mut self,
+        bank: &B,
+        filter: &mut F,
+        place: Place,
+    ) -> bool
         requires deep { ⌜ place .depth < 32 ⌝ }
         requires slot { ⌜ place .slot < 32 ⌝ }
         requires offered { ⌜ has (next-mask (row-at (models (now self .rows)) (place .depth))) (place .slot) ≡ true ⌝ }

@@ -9,7 +9,7 @@ use network::filter::Filter;
 
 impl Walk {
     // Visits nodes up to the first that shows a plan, and no more than the budget. Answers how many it visited.
-    pub fn visit_nodes<B: Bank, F: Filter>(
+    pub(crate) fn visit_nodes<B: Bank, F: Filter>(
         &mut self,
         bank: &B,
         filter: &mut F,
