@@ -1,0 +1,5 @@
+// Examples of what sessions answer.
+#[cfg(test)]
+mod listings;
+#[cfg(test)]
+mod refusals;
