@@ -1,5 +1,6 @@
-// Shows the example network: what its sheets support, and what each filter leaves of a row.
+// Shows the example network: what its sheets support, what each filter leaves of a row, and its plans.
 mod filtering;
+mod listing_of;
 mod sheets;
 
 use banks::pair::Pair;
@@ -20,5 +21,6 @@ fn main(rt: LibcRuntime) -> io::Result<()> {
         second: RuleBank::new(&RULES),
     };
     sheets::show(&rt, &bank, &OPEN)?;
-    filtering::show(&rt, &bank.first, &OPEN)
+    filtering::show(&rt, &bank.first, &OPEN)?;
+    listing_of::show(&rt, &bank.first, &OPEN)
 }
