@@ -5,12 +5,11 @@ ghost use Rattle.network.specs.Sheets.{choices, some-pass, supported};
 ghost use Rattle.std.specs.shelf.Lawful.{all-pass};
 ghost use lib.Bits.{bitOr};
 ghost use lib.Dec.{eqb, ltb};
-ghost use lib.ListN.{drop};
+ghost use lib.ListN.{drop, take};
 ghost use mathlib.Core.Bool.{cond, not};
 ghost use mathlib.Core.Path.{_≡_};
 use crate::rule::Rule;
 use crate::rule::RuleRecord;
-use crate::tried::with_alone;
 use network::mask::SLOTS;
 use network::mask::has_slot;
 use network::mask::single;
@@ -55,16 +54,17 @@ fn with_slot(used: u32, s: u8) -> u32
     used | single(s)
 }
 
-// Whether slots that all differ, and are none of `used`, can be chosen from the masks from position `q` on.
-fn some_distinct(masks: &[u32], q: usize, used: u32) -> bool
-    ensures { λ r. ⌜ r ≡ some-pass (free used) (choices (drop q (now (masks .entry)))) ⌝ }
+// Whether slots that all differ, and are none of `used`, can be chosen from the masks of the positions from `q` on.
+fn some_distinct(masks: &[u32; 6], arity: usize, q: usize, used: u32) -> bool
+    requires { ⌜ arity ≤ 6 ⌝ }
+    ensures { λ r. ⌜ r ≡ some-pass (free used) (choices (drop q (take arity (now (masks .entry))))) ⌝ }
 {
-    if q >= masks.len() {
+    if q >= arity {
         return true;
     }
     let mut from = 0;
     while let Some(s) = slot_from(masks[q], from) {
-        if !has_slot(used, s) && some_distinct(masks, q + 1, with_slot(used, s)) {
+        if !has_slot(used, s) && some_distinct(masks, arity, q + 1, with_slot(used, s)) {
             return true;
         }
         from = s + 1;
@@ -73,13 +73,14 @@ fn some_distinct(masks: &[u32], q: usize, used: u32) -> bool
 }
 
 // Whether the rule allows a choice, where position `p` has one slot alone.
-fn some_allowed(rule: Rule, masks: &[u32], p: usize) -> bool
-    requires { ⌜ Alone (now masks) p ⌝ }
-    ensures { λ r. ⌜ r ≡ some-pass (allowed-by rule) (choices (now (masks .entry))) ⌝ }
+fn some_allowed(rule: Rule, masks: &[u32; 6], arity: usize, p: usize) -> bool
+    requires { ⌜ arity ≤ 6 ⌝ }
+    requires { ⌜ Alone (take arity (now masks)) p ⌝ }
+    ensures { λ r. ⌜ r ≡ some-pass (allowed-by rule) (choices (take arity (now (masks .entry)))) ⌝ }
 {
     match rule {
-        Rule::NotEqual => some_unequal(masks, p),
-        Rule::AllDiff => some_distinct(masks, 0, 0),
+        Rule::NotEqual => some_unequal(&masks[0..arity], p),
+        Rule::AllDiff => some_distinct(masks, arity, 0, 0),
     }
 }
 
@@ -92,6 +93,7 @@ pub fn rule_supports(line: &RuleRecord, masks: &[u32; 6], p: usize, s: u8) -> bo
     if p >= arity || s >= SLOTS {
         return false;
     }
-    let tried = with_alone(masks, p, s);
-    some_allowed(line.rule, &tried[0..arity], p)
+    let mut tried = *masks;
+    tried[p] = single(s);
+    some_allowed(line.rule, &tried, arity, p)
 }

@@ -11,10 +11,10 @@ ghost use mathlib.Core.Bool.{true};
 ghost use mathlib.Core.Path.{_≡_};
 use crate::table::Kind;
 use crate::table::TableRecord;
-use crate::tried::with_alone;
 use crate::tuples::Tuples;
 use network::mask::SLOTS;
 use network::mask::has_slot;
+use network::mask::single;
 
 impl<'a> Tuples<'a> {
     // The number of the first tuple inside the masks.
@@ -106,7 +106,8 @@ pub fn table_supports(line: &TableRecord, cells: &[u8], masks: &[u32; 6], p: usi
     if p >= arity || s >= SLOTS {
         return false;
     }
-    let tried = with_alone(masks, p, s);
+    let mut tried = *masks;
+    tried[p] = single(s);
     let table = &cells[line.first..line.first + line.tuples * arity];
     let tuples = Tuples {
         cells: table,
