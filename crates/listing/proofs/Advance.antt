@@ -10,7 +10,6 @@ use Rattle.std.specs.declared.option.Option.the-variants.{Some, None}
 use Rattle.std.proofs.shelf.Lists.{append-assoc, getD-set-same, getD-set-other, take-set-le, take-more-set}
 use Rattle.std.proofs.shelf.Tests.{cond-false}
 use Rattle.std.specs.shelf.Lists.{joined}
-use Rattle.network.specs.Sheets.{has}
 use Rattle.network.specs.Offers.{first-of, slots-from}
 use Rattle.network.specs.Rows.{Row, dead, decide, next-mask}
 use Rattle.network.specs.Tree.{Node, below}

@@ -1,18 +1,17 @@
 -- A session's walk is one over the nodes that are left after its last node.
-use Prim.Native.Nat.{_<_, _≤_, ℕ}
+use Prim.Native.Nat.{_<_, ℕ}
 use native.Mathlib.Omega.{arith}
 use mathlib.Core.List.{List, []}
 use mathlib.Core.Logic.{inl, inr}
-use mathlib.Core.Path.{_∙_, _≡_, ap, refl, subst, sym}
+use mathlib.Core.Path.{_∙_, _≡_, ap, subst, sym}
 use lib.Dec.{eqb}
 use lib.ListN.{getD, length, take}
-use Rattle.std.specs.declared.option.Option.{Option}
 use Rattle.std.proofs.shelf.Lists.{getD-past, getD-take}
 use Rattle.std.proofs.shelf.Tests.{cases-lt, cond-false, cond-true, eq-eqb, ne-eqb}
 use Rattle.network.specs.Sheets.{Sheet}
 use Rattle.network.specs.Filters.{Filtering}
 use Rattle.network.specs.Rows.{Row}
-use Rattle.network.specs.Tree.{below, root, tree}
+use Rattle.network.specs.Tree.{below, root}
 use Rattle.listing.specs.Model.{left-after}
 use Rattle.listing.specs.Represents.{Continued, last-of, nodes-of, opened-of, pinned-of}
 use Rattle.listing.specs.ToCome.{Rebuilt, Slotted, Stacked, row-at, to-come, width}

@@ -7,7 +7,7 @@ use mathlib.Core.Path.{_∙_, _≡_, ap, ap₂, refl, subst, sym}
 use lib.Dec.{eqb, ltb}
 use lib.ListN.{drop, length, take}
 use Rattle.std.proofs.shelf.Lists.{take-append-drop}
-use Rattle.std.proofs.shelf.Tests.{cond-false, cond-true, le-ltb, lt-ltb, ne-eqb, or-from}
+use Rattle.std.proofs.shelf.Tests.{cond-false, cond-true, le-ltb, lt-ltb}
 use Rattle.network.specs.Sheets.{Sheet}
 use Rattle.network.specs.Filters.{Filtering}
 use Rattle.network.proofs.TreeOrder.{tree-ascends}
@@ -85,14 +85,13 @@ module _ (s : Session) (m : List Sheet) (f : Filtering) (budget room : ℕ) wher
     next-budget e (listing l) h =
         subst (Meets s (refused 9)) (sym (cond-true (eqb budget 0 || ltb 1000000 budget) (refuse (listing l) 9) (if-room l) e)) (record { state = h; answer = refl })
 
-    module _ (low : budget ≡ 0 → ⊥) (high : budget ≤ 1000000) where
+    module _ (allowed : (eqb budget 0 || ltb 1000000 budget) ≡ false) where
       size : (l : Listing) → Keeps (s .listing) l → length (l .opened) ≡ s .listing .blocks
       size l h = ap length (h .opened) ∙ as-many-masks (s .listing)
 
       after-budget : (l : Listing) → step (listing l) (next-call m f budget room) ≡ if-room l
       after-budget l =
-          cond-false (eqb budget 0 || ltb 1000000 budget) (refuse (listing l) 9) (if-room l)
-          (or-from (eqb budget 0) (ltb 1000000 budget) (ne-eqb budget 0 low) (le-ltb 1000000 budget high))
+          cond-false (eqb budget 0 || ltb 1000000 budget) (refuse (listing l) 9) (if-room l) allowed
 
       pub next-short : room < s .listing .blocks → Takes s s (next-call m f budget room) (refused 4)
       next-short r blank h = absurd (some h)

@@ -1,5 +1,5 @@
 -- What `pin` and `rewind` refuse, and what they leave behind.
-use Prim.Native.Nat.{_<_, _≤_, ℕ}
+use Prim.Native.Nat.{_<_, ℕ}
 use native.Mathlib.Omega.{arith}
 use mathlib.Core.Bool.{Bool, _&&_, cond, false, true}
 use mathlib.Core.Logic.{inl, inr}

@@ -1,7 +1,7 @@
 -- Block records: what is read of them, what a pin changes, and how the law comes out of a session's ghost field.
 use Prim.Native.Nat.{_<_, _^_, _≤_, suc, zero, ℕ}
 use native.Mathlib.Omega.{arith}
-use mathlib.Core.Bool.{Bool, _&&_, _||_, false, true}
+use mathlib.Core.Bool.{_||_, false, true}
 use mathlib.Core.List.{List, [], _∷_, map}
 use mathlib.Core.Logic.{∥∥₁-elim}
 use mathlib.Core.Path.{_∙_, _≡_, ap, refl, subst, sym}

@@ -1,12 +1,12 @@
 -- The root row that a session makes of its block records.
 use Prim.Native.Nat.{_-_, _<_, _^_, _≤_, suc, ℕ}
 use native.Mathlib.Omega.{arith}
-use mathlib.Core.Bool.{Bool, _||_, cond, false, true}
+use mathlib.Core.Bool.{Bool, _||_, false, true}
 use mathlib.Core.List.{List, [], _++_, _∷_, map}
 use mathlib.Core.Logic.{_⊎_, inl, inr}
 use mathlib.Core.Path.{_∙_, _≡_, ap, ap₂, refl, subst, sym}
 use lib.Dec.{eqb, ltb}
-use lib.ListN.{getD, length, replicate, take}
+use lib.ListN.{length, replicate, take}
 use Rattle.std.specs.declared.option.Option.{Option}
 use Rattle.std.specs.declared.option.Option.the-variants.{None, Some}
 use Rattle.std.proofs.shelf.Lists.{length-map, take-replicate}

@@ -3,7 +3,9 @@ ghost use Rattle.listing.specs.Model.{next-call};
 ghost use Rattle.listing.specs.Represents.{PlaceAfter, Runs, Takes, WalksAlong, last-of, walked-of};
 ghost use Rattle.network.specs.Sheets.{Sheet};
 ghost use Rattle.std.specs.declared.result.Result.the-variants.{Err, Ok};
+ghost use lib.Dec.{eqb, ltb};
 ghost use lib.ListN.{length};
+ghost use mathlib.Core.Bool.{_||_, not};
 ghost use mathlib.Core.List.{List};
 ghost use mathlib.Core.Path.{_≡_};
 use crate::fits::has_misfit;
@@ -14,6 +16,13 @@ use network::filter::Filter;
 use network::refusal::Refusal;
 
 const MAX_BUDGET: u32 = 1_000_000;
+
+// Whether a call may be given that budget.
+fn is_budget(budget: u32) -> bool
+    ensures { λ r. ⌜ r ≡ not (eqb budget 0 || ltb 1000000 budget) ⌝ }
+{
+    budget >= 1 && budget <= MAX_BUDGET
+}
 
 impl Session {
     // Visits the nodes of the filter's tree that come after the last one visited: up to the first that shows a plan, and no more than
@@ -35,7 +44,7 @@ impl Session {
         if blocks == 0 {
             return Err(Refusal::NotOpened);
         }
-        if budget == 0 || budget > MAX_BUDGET {
+        if !is_budget(budget) {
             return Err(Refusal::BadBudget);
         }
         if place.len() < blocks {

@@ -29,8 +29,9 @@ impl Walk {
             if visits == budget {
                 return (Outcome::Spent, visits);
             }
+            let shows = self.visit(bank, filter, place);
             visits += 1;
-            if self.visit(bank, filter, place) {
+            if shows {
                 return (Outcome::Plan, visits);
             }
         }

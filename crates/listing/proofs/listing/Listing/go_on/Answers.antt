@@ -1,9 +1,9 @@
 use Prim.Native.Nat.{_≤_}
 use native.Mathlib.Omega.{arith}
-use mathlib.Core.Path.{_∙_, _≡_, ap, refl, subst, sym}
+use mathlib.Core.Path.{_∙_, _≡_, refl, subst, sym}
 use lib.ListN.{length, take}
 use Rattle.std.proofs.shelf.Lists.{length-take-le}
-use Rattle.listing.specs.ToCome.{Slotted, models, width}
+use Rattle.listing.specs.ToCome.{Slotted, models}
 use Rattle.listing.proofs.GoingOn.{moved-on, resumed, slots-of, slots-to, stayed, walk-is, wide}
 use Rattle.listing.proofs.listing.Listing.go_on.Needs as need
 

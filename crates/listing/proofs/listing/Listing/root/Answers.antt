@@ -1,5 +1,5 @@
 use Prim.Native.Nat.{_+_, _<_}
-use mathlib.Core.Bool.{Bool, _||_, false, true}
+use mathlib.Core.Bool.{Bool, _||_, false}
 use mathlib.Core.List.{map}
 use mathlib.Core.Logic.{inl, inr}
 use mathlib.Core.Path.{_∙_, _≡_, ap, subst, sym}
@@ -9,7 +9,7 @@ use lib.ListN.{getD, length, length-set, take}
 use Rattle.std.proofs.shelf.Lists.{map-more, take-more-set}
 use Rattle.std.proofs.shelf.Tests.{or-left}
 use Rattle.network.specs.Laws.{LawfulRow}
-use Rattle.listing.specs.Records.{masks-of, record-mask}
+use Rattle.listing.specs.Records.{record-mask}
 use Rattle.listing.proofs.Records.{no-record}
 use Rattle.listing.proofs.RootMade.{root-of, root-row, some-empty-push}
 use Rattle.listing.proofs.listing.Listing.root.Needs as need

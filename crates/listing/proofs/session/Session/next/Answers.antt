@@ -1,9 +1,8 @@
-use mathlib.Core.Bool.{_||_, true}
-use mathlib.Core.Logic.{⊎-elim}
+use mathlib.Core.Bool.{_||_}
 use mathlib.Core.Path.{_∙_, _≡_, ap, refl, sym}
 use lib.Dec.{eqb, ltb}
 use lib.ListN.{drop, length, take}
-use Rattle.std.proofs.shelf.Tests.{eq-eqb, lt-ltb, or-left, or-right}
+use Rattle.std.proofs.shelf.Tests.{not-false, not-true}
 use Rattle.listing.specs.Model.{plan}
 use Rattle.listing.specs.Represents.{last-of}
 use Rattle.listing.specs.Walked.{outcome-named}
@@ -19,15 +18,13 @@ returns-then-blocks-eq0 g c =
     let e = next-unopened s m f (c .args .budget) (length (c .args .place .now)) (c .if-blocks-eq0 .taken) in
     record { step = e; runs = next-runs s s _ m f (c .args .budget) (length (c .args .place .now)) (g .B·Bank .lawful (c .args .bank .now)) e; walks = tt; refused = (refl, refl); place = refl }
 
-pub returns-then-budget-eq0 : need.returns-then-budget-eq0
-returns-then-budget-eq0 g c =
+pub returns-then-not-is-budget : need.returns-then-not-is-budget
+returns-then-not-is-budget g c =
     let s = c .args .self .now in
     let b = c .args .budget in
     let m = g .B·Bank .meaning (c .args .bank .now) in
     let f = g .F·Filter .filtered (c .args .filter .now) in
-    let t : (eqb b 0 || ltb 1000000 b) ≡ true =
-    ⊎-elim (λ p. or-left (eqb b 0) (ltb 1000000 b) (eq-eqb b 0 p)) (λ p. or-right (eqb b 0) (ltb 1000000 b) (lt-ltb 1000000 b (p .1))) (c .then-budget-eq0 .either) in
-    let e = next-budget s m f b (length (c .args .place .now)) (c .if-blocks-eq0 .left) t in
+    let e = next-budget s m f b (length (c .args .place .now)) (c .if-blocks-eq0 .left) (not-false (eqb b 0 || ltb 1000000 b) (sym (c .if-not-is-budget .ensures tt))) in
     record { step = e; runs = next-runs s s _ m f b (length (c .args .place .now)) (g .B·Bank .lawful (c .args .bank .now)) e; walks = tt; refused = (refl, refl); place = refl }
 
 pub returns-then-place-blocks : need.returns-then-place-blocks
@@ -35,7 +32,7 @@ returns-then-place-blocks g c =
     let s = c .args .self .now in
     let m = g .B·Bank .meaning (c .args .bank .now) in
     let f = g .F·Filter .filtered (c .args .filter .now) in
-    let e = next-short s m f (c .args .budget) (length (c .args .place .now)) (c .if-blocks-eq0 .left) (c .if-budget-eq0 .left) (c .if-budget-gt-MAX-BUDGET .left) (c .if-place-blocks .taken) in
+    let e = next-short s m f (c .args .budget) (length (c .args .place .now)) (c .if-blocks-eq0 .left) (not-true (eqb (c .args .budget) 0 || ltb 1000000 (c .args .budget)) (sym (c .if-not-is-budget .ensures tt))) (c .if-place-blocks .taken) in
     record { step = e; runs = next-runs s s _ m f (c .args .budget) (length (c .args .place .now)) (g .B·Bank .lawful (c .args .bank .now)) e; walks = tt; refused = (refl, refl); place = refl }
 
 pub returns-then-has-misfit : need.returns-then-has-misfit
@@ -43,7 +40,7 @@ returns-then-has-misfit g c =
     let s = c .args .self .now in
     let m = g .B·Bank .meaning (c .args .bank .now) in
     let f = g .F·Filter .filtered (c .args .filter .now) in
-    let e = next-misfit s m f (c .args .budget) (length (c .args .place .now)) (c .if-blocks-eq0 .left) (c .if-budget-eq0 .left) (c .if-budget-gt-MAX-BUDGET .left) (c .if-place-blocks .left)
+    let e = next-misfit s m f (c .args .budget) (length (c .args .place .now)) (c .if-blocks-eq0 .left) (not-true (eqb (c .args .budget) 0 || ltb 1000000 (c .args .budget)) (sym (c .if-not-is-budget .ensures tt))) (c .if-place-blocks .left)
     (sym (c .if-has-misfit .ensures tt)) in
     record { step = e; runs = next-runs s s _ m f (c .args .budget) (length (c .args .place .now)) (g .B·Bank .lawful (c .args .bank .now)) e; walks = tt; refused = (refl, refl); place = refl }
 
@@ -58,7 +55,7 @@ returns-in-Plan g c =
     let place = c .write-plan .last .place in
     let n = c .go-on-outcome .ensures .blocks in
     let written : take (s .listing .blocks) place ≡ take (s .listing .blocks) (t .path) = ap (λ i. take i place) (sym n) ∙ c .write-plan .ensures .front ∙ ap (λ i. take i (t .path)) n in
-    let e = next-accepted s m f (c .args .budget) (length (c .args .place .now)) (c .if-blocks-eq0 .left) (c .if-budget-eq0 .left) (c .if-budget-gt-MAX-BUDGET .left) (c .if-place-blocks .left)
+    let e = next-accepted s m f (c .args .budget) (length (c .args .place .now)) (c .if-blocks-eq0 .left) (not-true (eqb (c .args .budget) 0 || ltb 1000000 (c .args .budget)) (sym (c .if-not-is-budget .ensures tt))) (c .if-place-blocks .left)
     (sym (c .if-has-misfit .ensures tt)) (record { listing = t }) o v (c .go-on-outcome .ensures) place (λ _. written) in
     record {
       step = e;
@@ -79,7 +76,7 @@ returns-in-rest g c =
     let v = c .go-on-outcome .result .1 in
     let place = c .args .place .now in
     let none : outcome-named o ≡ plan → take (s .listing .blocks) place ≡ take (s .listing .blocks) (t .path) = λ p. absurd (c .in-rest .not-Plan (named-plan o p)) in
-    let e = next-accepted s m f (c .args .budget) (length place) (c .if-blocks-eq0 .left) (c .if-budget-eq0 .left) (c .if-budget-gt-MAX-BUDGET .left) (c .if-place-blocks .left)
+    let e = next-accepted s m f (c .args .budget) (length place) (c .if-blocks-eq0 .left) (not-true (eqb (c .args .budget) 0 || ltb 1000000 (c .args .budget)) (sym (c .if-not-is-budget .ensures tt))) (c .if-place-blocks .left)
     (sym (c .if-has-misfit .ensures tt)) (record { listing = t }) o v (c .go-on-outcome .ensures) place none in
     record {
       step = e;

@@ -1,4 +1,4 @@
-use mathlib.Core.Bool.{_&&_, false, true}
+use mathlib.Core.Bool.{_&&_, true}
 use mathlib.Core.Logic.{∥∥₁-map}
 use mathlib.Core.Path.{_≡_, refl, sym}
 use native.Mathlib.Omega.{arith}

@@ -1,7 +1,7 @@
 use mathlib.Core.List.{map}
 use mathlib.Core.Path.{_∙_, _≡_, ap, refl, sym}
 use native.Mathlib.Omega.{arith}
-use lib.ListN.{getD, length, take}
+use lib.ListN.{length, take}
 use Rattle.std.proofs.shelf.Lists.{length-set, map-more, take-all, take-more-set}
 use Rattle.listing.specs.Records.{unpinned}
 use Rattle.listing.proofs.session.calls.unpinned_records.Needs as need

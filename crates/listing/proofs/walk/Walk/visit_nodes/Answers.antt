@@ -1,8 +1,6 @@
-use Prim.Native.Nat.{_+_, _<_, _≤_, suc, ℕ}
+use Prim.Native.Nat.{_+_, _<_, _≤_}
 use native.Mathlib.Omega.{arith}
-use mathlib.Core.List.{List}
-use mathlib.Core.Path.{_∙_, _≡_, refl, subst, sym}
-use Rattle.network.specs.Rows.{Row}
+use mathlib.Core.Path.{_∙_, refl, subst, sym}
 use Rattle.listing.specs.ToCome.{Visited, models, to-come, width}
 use Rattle.listing.proofs.StackRows.{lawful-at}
 use Rattle.listing.proofs.Stepping.{place-low, some-left, stepped}
@@ -43,8 +41,8 @@ returns-then-visits-budget g c =
     finish-spent f n (to-come f n (models (w .rows)) (w .path) (w .depth) (w .from)) (c .args .budget) (models (t .rows)) (t .path) (t .depth) (t .from) (c .loop-place .visits)
     (c .loop-place .inv .1) (c .if-visits-budget .taken) (x .0) (x .1) (x .2)
 
-pub visit-requires : need.visit-requires
-visit-requires g c κs =
+pub visit-shows-requires : need.visit-shows-requires
+visit-shows-requires g c κs =
     let t = c .loop-place .self in
     let j = c .in-Some .place .depth in
     let n = width (models (c .args .self .now .rows)) in
@@ -53,27 +51,27 @@ visit-requires g c κs =
     let low : j < n = place-low n (models (t .rows)) (t .depth) j (c .in-Some .place .slot) (p .within) (lawful-at (t .rows) j) (c .loop-place .inv .1 .stacked) (p .offered) in
     record { deep = omega (arith, few, low); slot = p .slot; offered = p .offered }
 
-pub returns-then-visit : need.returns-then-visit
-returns-then-visit g c =
+pub returns-then-shows : need.returns-then-shows
+returns-then-shows g c =
     let w = c .args .self .now in
     let t = c .loop-place .self in
-    let u = c .visit .last .self in
+    let u = c .visit-shows .last .self in
     let j = c .in-Some .place .depth in
     let s = c .in-Some .place .slot in
     let m = g .B·Bank .meaning (c .args .bank .now) in
     let f = g .F·Filter .filtered (c .args .filter .now) m in
     let n = width (models (w .rows)) in
     let v = c .loop-place .inv in
-    let z = subst (λ H. Visited (H m) (models (t .rows)) (models (u .rows)) (t .path) (u .path) j s (c .visit .result)) (v .0) (c .visit .ensures .node) in
+    let z = subst (λ H. Visited (H m) (models (t .rows)) (models (u .rows)) (t .path) (u .path) j s (c .visit-shows .result)) (v .0) (c .visit-shows .ensures .node) in
     finish-plan f n (to-come f n (models (w .rows)) (w .path) (w .depth) (w .from)) (c .args .budget) (models (t .rows)) (t .path) (t .depth) (t .from) (c .loop-place .visits)
-    (v .1) (c .if-visits-budget .left) (models (u .rows)) (u .path) (u .depth) (c .visit .result)
-    (stepped n (lawful-at (t .rows) j) (v .1 .stacked) (c .in-Some .ensures tt) z (v .1 .slotted) (u .depth) (c .visit .ensures .depth)) (c .if-visit .taken)
+    (v .1) (c .if-visits-budget .left) (models (u .rows)) (u .path) (u .depth) (c .visit-shows .result)
+    (stepped n (lawful-at (t .rows) j) (v .1 .stacked) (c .in-Some .ensures tt) z (v .1 .slotted) (u .depth) (c .visit-shows .ensures .depth)) (c .if-shows .taken)
 
 pub loop-place-again : need.loop-place-again
 loop-place-again g c =
     let w = c .args .self .now in
     let t = c .loop-place .self in
-    let u = c .visit .last .self in
+    let u = c .visit-shows .last .self in
     let j = c .in-Some .place .depth in
     let s = c .in-Some .place .slot in
     let m = g .B·Bank .meaning (c .args .bank .now) in
@@ -81,9 +79,9 @@ loop-place-again g c =
     let n = width (models (w .rows)) in
     let xs = to-come f n (models (w .rows)) (w .path) (w .depth) (w .from) in
     let v = c .loop-place .inv in
-    let z = subst (λ H. Visited (H m) (models (t .rows)) (models (u .rows)) (t .path) (u .path) j s (c .visit .result)) (v .0) (c .visit .ensures .node) in (
-      c .visit .ensures .meaning ∙ v .0,
-      subst (λ a. Walking f n xs (c .args .budget) (models (u .rows)) (u .path) (u .depth) a (c .loop-place .visits + 1)) (sym (c .visit .ensures .from))
-          (walk-on f n xs (c .args .budget) (models (t .rows)) (t .path) (t .depth) (t .from) (c .loop-place .visits) (v .1) (c .if-visits-budget .left) (models (u .rows)) (u .path) (u .depth) (c .visit .result)
-          (stepped n (lawful-at (t .rows) j) (v .1 .stacked) (c .in-Some .ensures tt) z (v .1 .slotted) (u .depth) (c .visit .ensures .depth)) (c .if-visit .left)),
+    let z = subst (λ H. Visited (H m) (models (t .rows)) (models (u .rows)) (t .path) (u .path) j s (c .visit-shows .result)) (v .0) (c .visit-shows .ensures .node) in (
+      c .visit-shows .ensures .meaning ∙ v .0,
+      subst (λ a. Walking f n xs (c .args .budget) (models (u .rows)) (u .path) (u .depth) a (c .loop-place .visits + 1)) (sym (c .visit-shows .ensures .from))
+          (walk-on f n xs (c .args .budget) (models (t .rows)) (t .path) (t .depth) (t .from) (c .loop-place .visits) (v .1) (c .if-visits-budget .left) (models (u .rows)) (u .path) (u .depth) (c .visit-shows .result)
+          (stepped n (lawful-at (t .rows) j) (v .1 .stacked) (c .in-Some .ensures tt) z (v .1 .slotted) (u .depth) (c .visit-shows .ensures .depth)) (c .if-shows .left)),
     )
