@@ -14,7 +14,7 @@ use Rattle.network.specs.RowModel.{model}
 use Rattle.network.specs.Tree.{Node, below, child, shows}
 use Rattle.network.specs.declared.row.Row.{Row as CodeRow}
 use Rattle.listing.specs.Model.{left-after}
-use Rattle.listing.specs.declared.walk.Place.{Place}
+use Rattle.listing.specs.declared.walk.Child.{Child}
 
 -- the row of that number in a stack
 abbrev pub row-at : List Row → ℕ → Row
@@ -54,15 +54,15 @@ abbrev pub width : List Row → ℕ
 width rs = length (row-at rs 0 .opened)
 
 -- slot s of row j is the first of those to come from slot a of row k on
-pub record Placed (rs : List Row) (path : List ℕ) (k a j s : ℕ) : Type 0 where
+pub record ComesFirst (rs : List Row) (path : List ℕ) (k a j s : ℕ) : Type 0 where
   pub within : j ≤ k
   pub slot : s < 32
   pub offered : has (next-mask (row-at rs j)) s ≡ true
   pub same : (f : Row → Row) (n : ℕ) → to-come f n rs path k a ≡ to-come f n rs path j s
 
-abbrev pub NextPlace : List Row → List ℕ → ℕ → ℕ → Option Place → Type 0
-NextPlace rs path k a None = (f : Row → Row) (n : ℕ) → to-come f n rs path k a ≡ []
-NextPlace rs path k a (Some p) = Placed rs path k a (p .depth) (p .slot)
+abbrev pub NextChild : List Row → List ℕ → ℕ → ℕ → Option Child → Type 0
+NextChild rs path k a None = (f : Row → Row) (n : ℕ) → to-come f n rs path k a ≡ []
+NextChild rs path k a (Some p) = ComesFirst rs path k a (p .depth) (p .slot)
 
 -- the stack rs, rebuilt from the root row of the stack os along the path's first d slots, goes on from slot a of row k
 pub record Rebuilt (f : Row → Row) (os rs : List Row) (path : List ℕ) (d k a : ℕ) : Type 0 where

@@ -1,6 +1,6 @@
 // How a walk goes down to a node, finds the next one, and takes up the path of the last one again.
 ghost use Prim.Native.Nat.{_<_, _≤_, suc};
-ghost use Rattle.listing.specs.ToCome.{NextPlace, Rebuilt, Slotted, Visited, models, row-at};
+ghost use Rattle.listing.specs.ToCome.{NextChild, Rebuilt, Slotted, Visited, models, row-at};
 ghost use Rattle.network.specs.RowModel.{model};
 ghost use Rattle.network.specs.Rows.{dead, decide, next-mask};
 ghost use Rattle.network.specs.Sheets.{has};
@@ -8,7 +8,7 @@ ghost use lib.Dec.{eqb};
 ghost use lib.ListN.{length, set};
 ghost use mathlib.Core.Bool.{_&&_, not, true};
 ghost use mathlib.Core.Path.{_≡_};
-use crate::walk::Place;
+use crate::walk::Child;
 use crate::walk::Walk;
 use network::bank::Bank;
 use network::filter::Filter;
@@ -62,18 +62,18 @@ impl Walk {
         }
     }
 
-    // The place of the next node: the first slot that is left at the deepest row, or else past the path at the deepest one that has a slot left.
-    pub(super) fn next_place(&self) -> Option<Place>
+    // The next node: at the first slot that is left to the deepest row, or else past the path at the deepest row that has a slot left.
+    pub(super) fn next_child(&self) -> Option<Child>
         requires deep { ⌜ now self .depth ≤ 32 ⌝ }
         requires from { ⌜ now self .from ≤ 32 ⌝ }
         requires slots { ⌜ Slotted (now self .path) (now self .depth) ⌝ }
-        ensures { λ r. ⌜ NextPlace (models (now (self .entry) .rows)) (now (self .entry) .path) (now (self .entry) .depth) (now (self .entry) .from) r ⌝ }
+        ensures { λ r. ⌜ NextChild (models (now (self .entry) .rows)) (now (self .entry) .path) (now (self .entry) .depth) (now (self .entry) .from) r ⌝ }
     {
         let mut depth = self.depth;
         let mut from = self.from;
         loop {
             if let Some(slot) = self.rows[depth].offer_from(from) {
-                return Some(Place { depth, slot });
+                return Some(Child { depth, slot });
             }
             if depth == 0 {
                 return None;
@@ -83,23 +83,23 @@ impl Walk {
         }
     }
 
-    // Visits the node at a place, and says whether it shows a plan.
+    // Visits a child, and says whether it shows a plan.
     pub(super) fn visit<B: Bank, F: Filter>(
         &mut self,
         bank: &B,
         filter: &mut F,
-        place: Place,
+        child: Child,
     ) -> bool
-        requires deep { ⌜ place .depth < 32 ⌝ }
-        requires slot { ⌜ place .slot < 32 ⌝ }
-        requires offered { ⌜ has (next-mask (row-at (models (now self .rows)) (place .depth))) (place .slot) ≡ true ⌝ }
-        ensures node { λ r. ⌜ Visited (F·Filter .filtered (now (filter .entry)) (B·Bank .meaning (now (bank .entry)))) (models (now (self .entry) .rows)) (models (now (self .exit) .rows)) (now (self .entry) .path) (now (self .exit) .path) (place .depth) (place .slot) r ⌝ }
-        ensures depth { λ _. ⌜ now (self .exit) .depth ≡ suc (place .depth) ⌝ }
+        requires deep { ⌜ child .depth < 32 ⌝ }
+        requires slot { ⌜ child .slot < 32 ⌝ }
+        requires offered { ⌜ has (next-mask (row-at (models (now self .rows)) (child .depth))) (child .slot) ≡ true ⌝ }
+        ensures node { λ r. ⌜ Visited (F·Filter .filtered (now (filter .entry)) (B·Bank .meaning (now (bank .entry)))) (models (now (self .entry) .rows)) (models (now (self .exit) .rows)) (now (self .entry) .path) (now (self .exit) .path) (child .depth) (child .slot) r ⌝ }
+        ensures depth { λ _. ⌜ now (self .exit) .depth ≡ suc (child .depth) ⌝ }
         ensures from { λ _. ⌜ now (self .exit) .from ≡ 0 ⌝ }
         ensures meaning { λ _. ⌜ F·Filter .filtered (now (filter .exit)) ≡ F·Filter .filtered (now (filter .entry)) ⌝ }
     {
-        self.depth = place.depth;
-        self.descend(bank, filter, place.slot);
+        self.depth = child.depth;
+        self.descend(bank, filter, child.slot);
         shows_plan(&self.rows[self.depth])
     }
 }

@@ -23,13 +23,13 @@ impl Walk {
     {
         let mut visits = 0;
         loop {
-            let Some(place) = self.next_place() else {
+            let Some(child) = self.next_child() else {
                 return (Outcome::Done, visits);
             };
             if visits == budget {
                 return (Outcome::Spent, visits);
             }
-            let shows = self.visit(bank, filter, place);
+            let shows = self.visit(bank, filter, child);
             visits += 1;
             if shows {
                 return (Outcome::Plan, visits);

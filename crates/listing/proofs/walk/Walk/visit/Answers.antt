@@ -16,8 +16,8 @@ pub returns : need.returns
 returns g c =
     let w = c .args .self .now in
     let t = c .descend .last .self in
-    let k = c .args .place .depth in
-    let s = c .args .place .slot in
+    let k = c .args .child .depth in
+    let s = c .args .child .slot in
     let long : length (w .path) ≡ 32 = omega arith in
     let still : length (t .rows) ≡ 33 = omega arith in
     let deep : length (w .rows) ≡ 33 = omega (arith, still, length-map (t .rows) model, ap length (c .descend .ensures .rows) ∙ length-set (models (w .rows)) (suc k) _, length-map (w .rows) model) in

@@ -7,7 +7,7 @@ use Rattle.network.proofs.SlotsFrom.{first-here}
 use Rattle.listing.specs.ToCome.{models, row-at}
 use Rattle.listing.proofs.Advance.{at-first, at-top, go-up}
 use Rattle.listing.proofs.StackRows.{read}
-use Rattle.listing.proofs.walk.Walk.next_place.Needs as need
+use Rattle.listing.proofs.walk.Walk.next_child.Needs as need
 
 pub returns-in-Some : need.returns-in-Some
 returns-in-Some c =

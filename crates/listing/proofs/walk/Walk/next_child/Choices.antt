@@ -2,7 +2,7 @@ use Prim.Native.Nat.{_≤_, ℕ}
 use mathlib.Core.Path.{_≡_}
 use Rattle.network.specs.Rows.{Row}
 use Rattle.listing.specs.ToCome.{models, to-come}
-use Rattle.listing.proofs.walk.Walk.next_place.Given as given
+use Rattle.listing.proofs.walk.Walk.next_child.Given as given
 
 abbrev pub Inv-loop-slot : given.InvT-loop-slot
 Inv-loop-slot l =
