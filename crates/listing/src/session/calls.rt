@@ -6,7 +6,9 @@ ghost use Rattle.listing.specs.Represents.{Represents, Runs, Takes, done-of};
 ghost use Rattle.network.specs.Laws.{LawfulBank};
 ghost use Rattle.network.specs.Sheets.{Sheet};
 ghost use Rattle.std.specs.declared.result.Result.the-variants.{Err, Ok};
+ghost use lib.Dec.{eqb, ltb};
 ghost use lib.ListN.{length, take};
+ghost use mathlib.Core.Bool.{_||_, not};
 ghost use mathlib.Core.List.{List, map};
 ghost use mathlib.Core.Path.{_≡_};
 use crate::fits::has_misfit;
@@ -18,6 +20,13 @@ use network::mask::has_slot;
 use network::refusal::Refusal;
 
 const BLOCKS: usize = 32;
+
+// Whether a session may have so many blocks.
+fn is_block_count(blocks: usize) -> bool
+    ensures { λ r. ⌜ r ≡ not (eqb blocks 0 || ltb 32 blocks) ⌝ }
+{
+    blocks >= 1 && blocks <= BLOCKS
+}
 
 // The records of blocks with these open masks and no pin.
 fn unpinned_records(masks: &[u32]) -> [BlockRecord; 32]
@@ -54,7 +63,7 @@ impl Session {
         if self.listing.blocks != 0 {
             return Err(Refusal::AlreadyOpened);
         }
-        if masks.is_empty() || masks.len() > BLOCKS {
+        if !is_block_count(masks.len()) {
             return Err(Refusal::LimitExceeded);
         }
         if has_misfit(bank, masks.len()) {
