@@ -1,10 +1,11 @@
 -- The verdict on a table's record, and that accepted records make a lawful bank.
-use Prim.Native.Nat.{_*_, _+_, _<_, _≤_, ℕ}
+use Prim.Native.Nat.{_*_, _+_, _-_, _<_, _≤_, ℕ}
+use native.Mathlib.Omega.{arith}
 use mathlib.Core.Bool.{Bool, _||_, false, not, true}
 use mathlib.Core.List.{List, [], map}
 use mathlib.Core.Path.{_∙_, _≡_, ap, sym}
 use lib.Dec.{eqb, ltb}
-use lib.ListN.{getD, length}
+use lib.ListN.{drop, getD, length, take}
 use Rattle.std.specs.declared.result.Result.the-variants.{Err, Ok}
 use Rattle.std.specs.shelf.Lawful.{all-pass, distinct-test}
 use Rattle.std.proofs.shelf.Tests.{le-ltb, ltb-false, not-false, or-from, or-parts}
@@ -15,30 +16,39 @@ use Rattle.banks.specs.declared.table.Kind.the-variants.{Allow}
 use Rattle.banks.specs.declared.table.TableRecord.{TableRecord}
 use Rattle.banks.specs.Verdicts.{Verdict, accepts, ill-sized, on-first, out-of-range, refused-if}
 use Rattle.banks.specs.Tables.{allowed-in, climbs, table-cells, table-scope, table-sheet, table-verdict, tables-verdict, tuples-in, tuples-of}
-use Rattle.banks.specs.Accepted.{each-accepted, passed, records-lawful, scope-lawful, sizes}
+use Rattle.banks.specs.Accepted.{blocks-front, each-accepted, passed, records-lawful, scope-lawful, sizes, well-sized}
 
 -- what a read past the records would give
 abbrev pub no-table : TableRecord
 no-table = record { kind = Allow; arity = 0; blocks = []; first = 0; tuples = 0 }
 
-module _ (cells : List ℕ) (r : TableRecord) (sc tb : List ℕ) (scope-is : table-scope r ≡ sc) (table-is : table-cells cells r ≡ tb)
-    (size : ill-sized (r .arity) ≡ false) (short : r .tuples ≤ 4096) (there : r .first + r .tuples * r .arity ≤ length cells) where
+-- the verdict on a record of a good size whose cells are there, by the tests of its blocks and of its cells
+module _ (cells : List ℕ) (r : TableRecord) (sc tb : List ℕ) (scope-is : sc ≡ take (r .arity) (r .blocks)) (table-is : tb ≡ table-cells cells r)
+    (wide : r .arity ≤ length (r .blocks)) (low : 2 ≤ r .arity) (high : r .arity ≤ 6) (short : r .tuples ≤ 4096)
+    (there : r .first + r .tuples * r .arity ≤ length cells) where
   few : (ill-sized (r .arity) || ltb 4096 (r .tuples)) ≡ false
-  few = or-from (ill-sized (r .arity)) (ltb 4096 (r .tuples)) size (le-ltb 4096 (r .tuples) short)
+  few = or-from (ill-sized (r .arity)) (ltb 4096 (r .tuples)) (well-sized (r .arity) low high) (le-ltb 4096 (r .tuples) short)
 
   room : ltb (length cells) (r .first + r .tuples * r .arity) ≡ false
   room = le-ltb (length cells) (r .first + r .tuples * r .arity) there
 
+  scope : table-scope r ≡ sc
+  scope = blocks-front (r .arity) (r .blocks) wide ∙ sym scope-is
+
   pub table-out : (out-of-range sc || out-of-range tb) ≡ true → Err OutOfRange ≡ table-verdict cells r
-  table-out e = sym (simp (few, room, scope-is, table-is, e))
+  table-out e = sym (simp (few, room, scope, sym table-is, e))
 
   pub table-twice : (out-of-range sc || out-of-range tb) ≡ false → (not (distinct-test eqb sc) || not (climbs (tuples-in (r .arity) (r .tuples) tb))) ≡ true →
       Err Repeated ≡ table-verdict cells r
-  table-twice e d = sym (simp (few, room, scope-is, table-is, e, d))
+  table-twice e d = sym (simp (few, room, scope, sym table-is, e, d))
 
   pub table-fine : (out-of-range sc || out-of-range tb) ≡ false → (not (distinct-test eqb sc) || not (climbs (tuples-in (r .arity) (r .tuples) tb))) ≡ false →
       Ok tt ≡ table-verdict cells r
-  table-fine e d = sym (simp (few, room, scope-is, table-is, e, d))
+  table-fine e d = sym (simp (few, room, scope, sym table-is, e, d))
+
+-- the part of the cells that the code takes
+pub part-is : (cells : List ℕ) (r : TableRecord) → take (r .first + r .tuples * r .arity - r .first) (drop (r .first) cells) ≡ table-cells cells r
+part-is cells r = let e : r .first + r .tuples * r .arity - r .first ≡ r .tuples * r .arity = omega arith in ap (λ k. take k (drop (r .first) cells)) e
 
 -- what an accepted record has
 pub record Fine (cells : List ℕ) (r : TableRecord) : Type 0 where

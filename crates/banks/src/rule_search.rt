@@ -85,7 +85,7 @@ fn some_allowed(rule: Rule, masks: &[u32; 6], arity: usize, p: usize) -> bool
 }
 
 // Whether slot `s` has a support at position `p`.
-pub fn rule_supports(line: &RuleRecord, masks: &[u32; 6], p: usize, s: u8) -> bool
+pub(crate) fn rule_supports(line: &RuleRecord, masks: &[u32; 6], p: usize, s: u8) -> bool
     requires { ⌜ now line .arity ≤ 6 ⌝ }
     ensures { λ r. ⌜ r ≡ supported (rule-sheet (now (line .entry))) (now (masks .entry)) p s ⌝ }
 {

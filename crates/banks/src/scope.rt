@@ -65,7 +65,7 @@ pub fn block_at(arity: u8, blocks: &[u8; 6], p: usize) -> u8
 }
 
 // The blocks that a scope of that arity has: the others are not looked at.
-pub fn scope_of(arity: usize, blocks: &[u8; 6]) -> &[u8]
+pub(crate) fn scope_of(arity: usize, blocks: &[u8; 6]) -> &[u8]
     requires { ⌜ arity ≤ 6 ⌝ }
     ensures { λ r. ⌜ now r ≡ take arity (now (blocks .entry)) ⌝ }
 {

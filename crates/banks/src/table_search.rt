@@ -98,7 +98,13 @@ fn combinations(masks: &[u32]) -> usize
 }
 
 // Whether slot `s` has a support at position `p`.
-pub fn table_supports(line: &TableRecord, cells: &[u8], masks: &[u32; 6], p: usize, s: u8) -> bool
+pub(crate) fn table_supports(
+    line: &TableRecord,
+    cells: &[u8],
+    masks: &[u32; 6],
+    p: usize,
+    s: u8,
+) -> bool
     requires { ⌜ Fine (now cells) (now line) ⌝ }
     ensures { λ r. ⌜ r ≡ supported (table-sheet (now (cells .entry)) (now (line .entry))) (now (masks .entry)) p s ⌝ }
 {

@@ -19,7 +19,7 @@ pub struct Tuples<'a> {
 
 impl<'a> Tuples<'a> {
     // The tuple of that number.
-    pub fn at(&self, i: usize) -> &'a [u8]
+    pub(crate) fn at(&self, i: usize) -> &'a [u8]
         requires { ⌜ i < now self .count ⌝ }
         ensures tuple { λ r. ⌜ now r ≡ getD (tuples-in (now (self .entry) .arity) (now (self .entry) .count) (now (now (self .entry) .cells))) i [] ⌝ }
         ensures len { λ r. ⌜ length (now r) ≡ now (self .entry) .arity ⌝ }

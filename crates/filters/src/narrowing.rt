@@ -30,7 +30,7 @@ fn supported_slots<B: Bank>(bank: &B, c: usize, masks: &[u32; 6], p: usize, mask
 }
 
 // Narrows the row on sheet `c`. Only undecided blocks are asked: where each keeps a slot, a tuple supports the decided slots too.
-pub fn narrow<B: Bank>(bank: &B, c: usize, reading: Reading, row: &mut Row) -> Effect
+pub(crate) fn narrow<B: Bank>(bank: &B, c: usize, reading: Reading, row: &mut Row) -> Effect
     requires inside { ⌜ passed-over (model (now row)) (sheet-at (B·Bank .meaning (now bank)) c) ≡ false ⌝ }
     requires future { ⌜ 0 < undecided-in (model (now row)) (sheet-at (B·Bank .meaning (now bank)) c) ⌝ }
     ensures row { λ _. ⌜ model (now (row .exit)) ≡ step-by reading (model (now (row .entry))) (sheet-at (B·Bank .meaning (now (bank .entry))) c) ⌝ }
