@@ -18,7 +18,8 @@ impl Listing {
         budget: u32,
     ) -> (Outcome, u32)
         requires { ⌜ 0 < now self .blocks ⌝ }
-        ensures { λ r. ⌜ Continued (now (self .entry)) (now (self .exit)) (B·Bank .meaning (now (bank .entry))) (F·Filter .filtered (now (filter .entry))) budget (r .0) (r .1) ⌝ }
+        ensures walk { λ r. ⌜ Continued (now (self .entry)) (now (self .exit)) (B·Bank .meaning (now (bank .entry))) (F·Filter .filtered (now (filter .entry))) budget (r .0) (r .1) ⌝ }
+        ensures meaning { λ _. ⌜ F·Filter .filtered (now (filter .exit)) ≡ F·Filter .filtered (now (filter .entry)) ⌝ }
     {
         let root = self.root();
         let path = self.path;

@@ -37,6 +37,7 @@ impl Session {
         ensures step { λ r. ⌜ Takes (now (self .entry)) (now (self .exit)) (next-call (B·Bank .meaning (now (bank .entry))) (F·Filter .filtered (now (filter .entry))) budget (length (now (place .entry)))) (walked-of (now (self .entry) .listing .blocks) (now (place .exit)) r) ⌝ }
         ensures runs { λ r. ⌜ ((m : List Sheet) → Runs m (now (self .entry)) (now (self .exit)) (next-call (B·Bank .meaning (now (bank .entry))) (F·Filter .filtered (now (filter .entry))) budget (length (now (place .entry)))) (walked-of (now (self .entry) .listing .blocks) (now (place .exit)) r)) ⌝ }
         ensures walks { λ r. ⌜ WalksAlong (now (self .entry) .listing) (now (self .exit) .listing) (B·Bank .meaning (now (bank .entry))) (F·Filter .filtered (now (filter .entry))) budget (walked-of (now (self .entry) .listing .blocks) (now (place .exit)) r) ⌝ }
+        ensures meaning { λ _. ⌜ F·Filter .filtered (now (filter .exit)) ≡ F·Filter .filtered (now (filter .entry)) ⌝ }
         ensures refused { λ r. ⌜ elim r [ Ok v ↦ Unit {0} | Err e ↦ (now (self .exit) ≡ now (self .entry)) × (now (place .exit) ≡ now (place .entry)) ] ⌝ }
         ensures place { λ r. ⌜ PlaceAfter (now (self .entry) .listing .blocks) (last-of (now (self .exit) .listing)) (now (place .entry)) (now (place .exit)) r ⌝ }
     {

@@ -2,6 +2,7 @@
 ghost use Prim.Native.Nat.{_≤_};
 ghost use Rattle.listing.specs.ToCome.{Slotted, Stacked, models, to-come, width};
 ghost use Rattle.listing.specs.Walked.{Walked};
+ghost use mathlib.Core.Path.{_≡_};
 use crate::outcome::Outcome;
 use crate::walk::Walk;
 use network::bank::Bank;
@@ -19,7 +20,8 @@ impl Walk {
         requires from { ⌜ now self .from ≤ 32 ⌝ }
         requires slots { ⌜ Slotted (now self .path) (now self .depth) ⌝ }
         requires rows { ⌜ Stacked (width (models (now self .rows))) (models (now self .rows)) (now self .depth) ⌝ }
-        ensures { λ r. ⌜ Walked (width (models (now (self .entry) .rows))) (to-come (F·Filter .filtered (now (filter .entry)) (B·Bank .meaning (now (bank .entry)))) (width (models (now (self .entry) .rows))) (models (now (self .entry) .rows)) (now (self .entry) .path) (now (self .entry) .depth) (now (self .entry) .from)) budget (now (self .exit) .path) (now (self .exit) .depth) (r .0) (r .1) ⌝ }
+        ensures walked { λ r. ⌜ Walked (width (models (now (self .entry) .rows))) (to-come (F·Filter .filtered (now (filter .entry)) (B·Bank .meaning (now (bank .entry)))) (width (models (now (self .entry) .rows))) (models (now (self .entry) .rows)) (now (self .entry) .path) (now (self .entry) .depth) (now (self .entry) .from)) budget (now (self .exit) .path) (now (self .exit) .depth) (r .0) (r .1) ⌝ }
+        ensures meaning { λ _. ⌜ F·Filter .filtered (now (filter .exit)) ≡ F·Filter .filtered (now (filter .entry)) ⌝ }
     {
         let mut visits = 0;
         loop {

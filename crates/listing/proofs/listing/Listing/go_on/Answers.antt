@@ -28,7 +28,7 @@ pub ghost-self : need.ghost-self
 ghost-self g c =
     let s = c .args .self .now in
     let t = c .visit-nodes-outcome .last .self in
-    let e = c .visit-nodes-outcome .ensures in
+    let e = c .visit-nodes-outcome .ensures .walked in
     let low : t .depth ≤ s .blocks = omega (arith, e .deep, wide s (c .rebuild .ensures .rows) (c .root-root .ensures)) in
     let long : length (take (t .depth) (t .path)) ≡ t .depth = length-take-le (t .depth) (t .path) (e .room (c .if-visits-gt0 .taken)) in
     (s .few, (s .sized, (s .lawful, (low, (long, (slots-to (t .path) (t .depth) long (e .slotted), tt))))))
@@ -43,8 +43,8 @@ returns-then-visits-gt0 g c =
     let o = c .visit-nodes-outcome .result .0 in
     let v = c .visit-nodes-outcome .result .1 in
     let w = walk-is s F (g .F·Filter .filtered (c .rebuild .last .filter)) m (models (u .rows)) (u .path) (u .depth) (u .from) (c .args .budget) (t .path) (t .depth) o v
-    (c .rebuild .ensures .rows) (c .root-root .ensures) (c .rebuild .ensures .meaning) (c .rebuild .ensures .path) (c .visit-nodes-outcome .ensures) in
-    moved-on s _ F m (c .args .budget) (t .path) (t .depth) o v w refl refl (c .if-visits-gt0 .taken) refl refl
+    (c .rebuild .ensures .rows) (c .root-root .ensures) (c .rebuild .ensures .meaning) (c .rebuild .ensures .path) (c .visit-nodes-outcome .ensures .walked) in
+    record { walk = moved-on s _ F m (c .args .budget) (t .path) (t .depth) o v w refl refl (c .if-visits-gt0 .taken) refl refl; meaning = c .visit-nodes-outcome .ensures .meaning ∙ c .rebuild .ensures .meaning }
 
 pub returns-else-visits-gt0 : need.returns-else-visits-gt0
 returns-else-visits-gt0 g c =
@@ -56,5 +56,5 @@ returns-else-visits-gt0 g c =
     let o = c .visit-nodes-outcome .result .0 in
     let v = c .visit-nodes-outcome .result .1 in
     let w = walk-is s F (g .F·Filter .filtered (c .rebuild .last .filter)) m (models (u .rows)) (u .path) (u .depth) (u .from) (c .args .budget) (t .path) (t .depth) o v
-    (c .rebuild .ensures .rows) (c .root-root .ensures) (c .rebuild .ensures .meaning) (c .rebuild .ensures .path) (c .visit-nodes-outcome .ensures) in
-    stayed s s F m (c .args .budget) (t .path) (t .depth) o v w refl refl (omega (arith, c .if-visits-gt0 .left)) refl
+    (c .rebuild .ensures .rows) (c .root-root .ensures) (c .rebuild .ensures .meaning) (c .rebuild .ensures .path) (c .visit-nodes-outcome .ensures .walked) in
+    record { walk = stayed s s F m (c .args .budget) (t .path) (t .depth) o v w refl refl (omega (arith, c .if-visits-gt0 .left)) refl; meaning = c .visit-nodes-outcome .ensures .meaning ∙ c .rebuild .ensures .meaning }

@@ -16,7 +16,7 @@ returns-then-blocks-eq0 g c =
     let m = g .B·Bank .meaning (c .args .bank .now) in
     let f = g .F·Filter .filtered (c .args .filter .now) in
     let e = next-unopened s m f (c .args .budget) (length (c .args .place .now)) (c .if-blocks-eq0 .taken) in
-    record { step = e; runs = next-runs s s _ m f (c .args .budget) (length (c .args .place .now)) (g .B·Bank .lawful (c .args .bank .now)) e; walks = tt; refused = (refl, refl); place = refl }
+    record { step = e; runs = next-runs s s _ m f (c .args .budget) (length (c .args .place .now)) (g .B·Bank .lawful (c .args .bank .now)) e; walks = tt; meaning = refl; refused = (refl, refl); place = refl }
 
 pub returns-then-not-is-budget : need.returns-then-not-is-budget
 returns-then-not-is-budget g c =
@@ -25,7 +25,7 @@ returns-then-not-is-budget g c =
     let m = g .B·Bank .meaning (c .args .bank .now) in
     let f = g .F·Filter .filtered (c .args .filter .now) in
     let e = next-budget s m f b (length (c .args .place .now)) (c .if-blocks-eq0 .left) (not-false (eqb b 0 || ltb 1000000 b) (sym (c .if-not-is-budget .ensures tt))) in
-    record { step = e; runs = next-runs s s _ m f b (length (c .args .place .now)) (g .B·Bank .lawful (c .args .bank .now)) e; walks = tt; refused = (refl, refl); place = refl }
+    record { step = e; runs = next-runs s s _ m f b (length (c .args .place .now)) (g .B·Bank .lawful (c .args .bank .now)) e; walks = tt; meaning = refl; refused = (refl, refl); place = refl }
 
 pub returns-then-place-blocks : need.returns-then-place-blocks
 returns-then-place-blocks g c =
@@ -33,7 +33,7 @@ returns-then-place-blocks g c =
     let m = g .B·Bank .meaning (c .args .bank .now) in
     let f = g .F·Filter .filtered (c .args .filter .now) in
     let e = next-short s m f (c .args .budget) (length (c .args .place .now)) (c .if-blocks-eq0 .left) (not-true (eqb (c .args .budget) 0 || ltb 1000000 (c .args .budget)) (sym (c .if-not-is-budget .ensures tt))) (c .if-place-blocks .taken) in
-    record { step = e; runs = next-runs s s _ m f (c .args .budget) (length (c .args .place .now)) (g .B·Bank .lawful (c .args .bank .now)) e; walks = tt; refused = (refl, refl); place = refl }
+    record { step = e; runs = next-runs s s _ m f (c .args .budget) (length (c .args .place .now)) (g .B·Bank .lawful (c .args .bank .now)) e; walks = tt; meaning = refl; refused = (refl, refl); place = refl }
 
 pub returns-then-has-misfit : need.returns-then-has-misfit
 returns-then-has-misfit g c =
@@ -42,7 +42,7 @@ returns-then-has-misfit g c =
     let f = g .F·Filter .filtered (c .args .filter .now) in
     let e = next-misfit s m f (c .args .budget) (length (c .args .place .now)) (c .if-blocks-eq0 .left) (not-true (eqb (c .args .budget) 0 || ltb 1000000 (c .args .budget)) (sym (c .if-not-is-budget .ensures tt))) (c .if-place-blocks .left)
     (sym (c .if-has-misfit .ensures tt)) in
-    record { step = e; runs = next-runs s s _ m f (c .args .budget) (length (c .args .place .now)) (g .B·Bank .lawful (c .args .bank .now)) e; walks = tt; refused = (refl, refl); place = refl }
+    record { step = e; runs = next-runs s s _ m f (c .args .budget) (length (c .args .place .now)) (g .B·Bank .lawful (c .args .bank .now)) e; walks = tt; meaning = refl; refused = (refl, refl); place = refl }
 
 pub returns-in-Plan : need.returns-in-Plan
 returns-in-Plan g c =
@@ -53,16 +53,17 @@ returns-in-Plan g c =
     let o = c .go-on-outcome .result .0 in
     let v = c .go-on-outcome .result .1 in
     let place = c .write-plan .last .place in
-    let n = c .go-on-outcome .ensures .blocks in
+    let n = c .go-on-outcome .ensures .walk .blocks in
     let written : take (s .listing .blocks) place ≡ take (s .listing .blocks) (t .path) = ap (λ i. take i place) (sym n) ∙ c .write-plan .ensures .front ∙ ap (λ i. take i (t .path)) n in
     let e = next-accepted s m f (c .args .budget) (length (c .args .place .now)) (c .if-blocks-eq0 .left) (not-true (eqb (c .args .budget) 0 || ltb 1000000 (c .args .budget)) (sym (c .if-not-is-budget .ensures tt))) (c .if-place-blocks .left)
-    (sym (c .if-has-misfit .ensures tt)) (record { listing = t }) o v (c .go-on-outcome .ensures) place (λ _. written) in
+    (sym (c .if-has-misfit .ensures tt)) (record { listing = t }) o v (c .go-on-outcome .ensures .walk) place (λ _. written) in
     record {
       step = e;
       runs = next-runs s (record { listing = t }) _ m f (c .args .budget) (length (c .args .place .now)) (g .B·Bank .lawful (c .args .bank .now)) e;
-      walks = walks-along (s .listing) t m f (c .args .budget) o v (c .go-on-outcome .ensures) place (λ _. written);
+      walks = walks-along (s .listing) t m f (c .args .budget) o v (c .go-on-outcome .ensures .walk) place (λ _. written);
+      meaning = c .go-on-outcome .ensures .meaning;
       refused = tt;
-      place = filled-place (s .listing) t m f (c .args .budget) o v (c .go-on-outcome .ensures) (c .in-Plan .is) (c .args .place .now) place written
+      place = filled-place (s .listing) t m f (c .args .budget) o v (c .go-on-outcome .ensures .walk) (c .in-Plan .is) (c .args .place .now) place written
           (ap (λ i. drop i place) (sym n) ∙ c .write-plan .ensures .back ∙ ap (λ i. drop i (c .args .place .now)) n);
     }
 
@@ -77,11 +78,12 @@ returns-in-rest g c =
     let place = c .args .place .now in
     let none : outcome-named o ≡ plan → take (s .listing .blocks) place ≡ take (s .listing .blocks) (t .path) = λ p. absurd (c .in-rest .not-Plan (named-plan o p)) in
     let e = next-accepted s m f (c .args .budget) (length place) (c .if-blocks-eq0 .left) (not-true (eqb (c .args .budget) 0 || ltb 1000000 (c .args .budget)) (sym (c .if-not-is-budget .ensures tt))) (c .if-place-blocks .left)
-    (sym (c .if-has-misfit .ensures tt)) (record { listing = t }) o v (c .go-on-outcome .ensures) place none in
+    (sym (c .if-has-misfit .ensures tt)) (record { listing = t }) o v (c .go-on-outcome .ensures .walk) place none in
     record {
       step = e;
       runs = next-runs s (record { listing = t }) _ m f (c .args .budget) (length place) (g .B·Bank .lawful (c .args .bank .now)) e;
-      walks = walks-along (s .listing) t m f (c .args .budget) o v (c .go-on-outcome .ensures) place none;
+      walks = walks-along (s .listing) t m f (c .args .budget) o v (c .go-on-outcome .ensures .walk) place none;
+      meaning = c .go-on-outcome .ensures .meaning;
       refused = tt;
       place = kept-place o (s .listing .blocks) (last-of t) place (c .in-rest .not-Plan);
     }

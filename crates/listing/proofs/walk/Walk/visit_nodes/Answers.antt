@@ -27,8 +27,11 @@ returns-in-rest g c =
     let t = c .loop-child .self in
     let f = g .F·Filter .filtered (c .args .filter .now) (g .B·Bank .meaning (c .args .bank .now)) in
     let n = width (models (w .rows)) in
-    finish-done f n (to-come f n (models (w .rows)) (w .path) (w .depth) (w .from)) (c .args .budget) (models (t .rows)) (t .path) (t .depth) (t .from) (c .loop-child .visits)
-    (c .loop-child .inv .1) (c .in-rest .ensures tt f n)
+    record {
+      walked = finish-done f n (to-come f n (models (w .rows)) (w .path) (w .depth) (w .from)) (c .args .budget) (models (t .rows)) (t .path) (t .depth) (t .from) (c .loop-child .visits)
+          (c .loop-child .inv .1) (c .in-rest .ensures tt f n);
+      meaning = c .loop-child .inv .0;
+    }
 
 pub returns-then-visits-budget : need.returns-then-visits-budget
 returns-then-visits-budget g c =
@@ -38,8 +41,11 @@ returns-then-visits-budget g c =
     let n = width (models (w .rows)) in
     let x = some-left f n (models (t .rows)) (t .path) (t .depth) (t .from) (c .in-Some .child .depth) (c .in-Some .child .slot)
     (lawful-at (t .rows) (c .in-Some .child .depth)) (c .loop-child .inv .1 .stacked) (c .in-Some .ensures tt) in
-    finish-spent f n (to-come f n (models (w .rows)) (w .path) (w .depth) (w .from)) (c .args .budget) (models (t .rows)) (t .path) (t .depth) (t .from) (c .loop-child .visits)
-    (c .loop-child .inv .1) (c .if-visits-budget .taken) (x .0) (x .1) (x .2)
+    record {
+      walked = finish-spent f n (to-come f n (models (w .rows)) (w .path) (w .depth) (w .from)) (c .args .budget) (models (t .rows)) (t .path) (t .depth) (t .from) (c .loop-child .visits)
+          (c .loop-child .inv .1) (c .if-visits-budget .taken) (x .0) (x .1) (x .2);
+      meaning = c .loop-child .inv .0;
+    }
 
 pub visit-shows-requires : need.visit-shows-requires
 visit-shows-requires g c κs =
@@ -63,9 +69,12 @@ returns-then-shows g c =
     let n = width (models (w .rows)) in
     let v = c .loop-child .inv in
     let z = subst (λ H. Visited (H m) (models (t .rows)) (models (u .rows)) (t .path) (u .path) j s (c .visit-shows .result)) (v .0) (c .visit-shows .ensures .node) in
-    finish-plan f n (to-come f n (models (w .rows)) (w .path) (w .depth) (w .from)) (c .args .budget) (models (t .rows)) (t .path) (t .depth) (t .from) (c .loop-child .visits)
-    (v .1) (c .if-visits-budget .left) (models (u .rows)) (u .path) (u .depth) (c .visit-shows .result)
-    (stepped n (lawful-at (t .rows) j) (v .1 .stacked) (c .in-Some .ensures tt) z (v .1 .slotted) (u .depth) (c .visit-shows .ensures .depth)) (c .if-shows .taken)
+    record {
+      walked = finish-plan f n (to-come f n (models (w .rows)) (w .path) (w .depth) (w .from)) (c .args .budget) (models (t .rows)) (t .path) (t .depth) (t .from) (c .loop-child .visits)
+          (v .1) (c .if-visits-budget .left) (models (u .rows)) (u .path) (u .depth) (c .visit-shows .result)
+          (stepped n (lawful-at (t .rows) j) (v .1 .stacked) (c .in-Some .ensures tt) z (v .1 .slotted) (u .depth) (c .visit-shows .ensures .depth)) (c .if-shows .taken);
+      meaning = c .visit-shows .ensures .meaning ∙ v .0;
+    }
 
 pub loop-child-again : need.loop-child-again
 loop-child-again g c =
