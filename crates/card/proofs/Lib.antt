@@ -1,0 +1,14 @@
+pub mod Tests
+pub mod Numbers
+pub mod NumberLists
+pub mod Lines
+pub mod Cuts
+pub mod Capped
+pub mod Packing
+pub mod Passages
+pub mod Accepted
+pub mod Keyed
+pub mod Scopes
+pub mod Sections
+pub mod Spelled
+pub mod Theorem

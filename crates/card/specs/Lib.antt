@@ -1,0 +1,6 @@
+pub mod Spelling
+pub mod Verdict
+pub mod Parts
+pub mod Lists
+pub mod Sheets
+pub mod Example

@@ -1,0 +1,4 @@
+// Cards: a network as text, its judgement and its reading.
+mod list;
+mod number;
+mod place;
