@@ -5,6 +5,7 @@ pub mod Lines
 pub mod Cuts
 pub mod Capped
 pub mod Packing
+pub mod Keys
 pub mod Passages
 pub mod Accepted
 pub mod Keyed

@@ -2,5 +2,6 @@ pub mod Spelling
 pub mod Verdict
 pub mod Parts
 pub mod Lists
+pub mod Kinds
 pub mod Sheets
 pub mod Example
