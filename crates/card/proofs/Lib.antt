@@ -6,6 +6,7 @@ pub mod Cuts
 pub mod Capped
 pub mod Packing
 pub mod Keys
+pub mod Checking
 pub mod Passages
 pub mod Accepted
 pub mod Keyed

@@ -20,7 +20,7 @@ use Rattle.card.specs.Lists.{Holds, Listed, packed}
 use Rattle.card.proofs.Tests.{all-pass-append}
 use Rattle.card.proofs.Cuts.{pieces-at, pieces-whole}
 
-packed-at : (xs : List ℕ) (k d : ℕ) → k < 6 → getD (packed xs) k d ≡ min (getD xs k 255) 255
+pub packed-at : (xs : List ℕ) (k d : ℕ) → k < 6 → getD (packed xs) k d ≡ min (getD xs k 255) 255
 packed-at xs k d l = getD-map (λ p. min (getD xs p 255) 255) (counting 0 6) k 0 d l ∙ ap (λ p. min (getD xs p 255) 255) (getD-counting 0 6 k 0 l ∙ zero-add k)
 
 -- one number more, where there is room and where there is none

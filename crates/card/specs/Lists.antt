@@ -15,6 +15,9 @@ use Rattle.card.specs.Verdict.{is-number, pieces, value-of}
 abbrev pub packed : List ℕ → List ℕ
 packed xs = map (λ p. min (getD xs p 255) 255) (counting 0 6)
 
+abbrev pub list-of : List ℕ → NumberList
+list-of xs = record { count = length xs; numbers = packed xs }
+
 pub record Holds (l : NumberList) (xs : List ℕ) : Type 0 where
   pub count : l .count ≡ length xs
   pub numbers : l .numbers ≡ packed xs

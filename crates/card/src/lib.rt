@@ -1,4 +1,5 @@
 // Cards: a network as text, its judgement and its reading.
+mod checks;
 mod line;
 mod list;
 mod number;

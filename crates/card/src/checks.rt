@@ -1,0 +1,59 @@
+// The checks of a line's value: its form, its limits, its range, its repetitions.
+ghost use Prim.Native.Nat.{_^_, _<_, _≤_};
+ghost use Rattle.card.specs.Checks.{number-checked, scope-checked};
+ghost use Rattle.std.specs.shelf.Lawful.{all-pass};
+ghost use lib.Dec.{ltb};
+ghost use lib.ListN.{length};
+ghost use mathlib.Core.Path.{_≡_};
+use crate::list::NumberList;
+use crate::number::number;
+use banks::all_distinct;
+use network::refusal::Refusal;
+
+const MIN_ARITY: usize = 2;
+
+const MAX_ARITY: usize = 6;
+
+pub fn number_in(value: &[u8], least: usize, most: usize) -> Result<usize, Refusal>
+    requires { ⌜ most < 2 ^ 32 ⌝ }
+    ensures { λ r. ⌜ r ≡ number-checked least most (now (value .entry)) ⌝ }
+{
+    let Some(n) = number(value) else {
+        return Err(Refusal::Malformed);
+    };
+    if n < least || n > most {
+        return Err(Refusal::LimitExceeded);
+    }
+    Ok(n)
+}
+
+fn all_below(numbers: &[u8], limit: usize) -> bool
+    ensures { λ r. ⌜ r ≡ all-pass (λ x. ltb x limit) (now (numbers .entry)) ⌝ }
+{
+    for x in numbers {
+        if *x as usize >= limit {
+            return false;
+        }
+    }
+    true
+}
+
+pub fn scope_in(value: &[u8], blocks: usize) -> Result<NumberList, Refusal>
+    requires { ⌜ length (now value) < 2 ^ 63 ⌝ ∗ ⌜ blocks ≤ 32 ⌝ }
+    ensures { λ r. ⌜ r ≡ scope-checked blocks (now (value .entry)) ⌝ }
+{
+    let Some(list) = NumberList::read(value) else {
+        return Err(Refusal::Malformed);
+    };
+    if list.count < MIN_ARITY || list.count > MAX_ARITY {
+        return Err(Refusal::LimitExceeded);
+    }
+    let scope = &list.numbers[0..list.count];
+    if !all_below(scope, blocks) {
+        return Err(Refusal::OutOfRange);
+    }
+    if !all_distinct(scope) {
+        return Err(Refusal::Repeated);
+    }
+    Ok(list)
+}
