@@ -10,10 +10,11 @@ use lib.ListN.{length, length-map, take}
 use Rattle.std.specs.declared.result.Result.the-variants.{Err, Ok}
 use Rattle.std.specs.shelf.Lawful.{all-pass, distinct-test}
 use Rattle.std.proofs.shelf.Lists.{getD-map, getD-take, length-take-le, same-lists}
-use Rattle.std.proofs.shelf.Tests.{and-from, and-left, and-parts, and-right, cases-lt, le-leb, lt-leb, lt-ltb, le-ltb, ltb-true}
-use Rattle.network.specs.declared.refusal.Refusal.the-variants.{LimitExceeded, OutOfRange, Repeated}
+use Rattle.std.proofs.shelf.Tests.{and-from, and-left, and-parts, and-right, cases-lt, eq-eqb, le-leb, lt-leb, lt-ltb, le-ltb, ltb-true, ne-eqb}
+use Rattle.network.specs.Tree.{precedes}
+use Rattle.network.specs.declared.refusal.Refusal.the-variants.{LimitExceeded, Malformed, OutOfRange, Repeated}
 use Rattle.card.specs.declared.list.NumberList.{NumberList}
-use Rattle.card.specs.Checks.{scope-checked}
+use Rattle.card.specs.Checks.{scope-checked, tuple-checked}
 use Rattle.card.specs.Lists.{Holds, list-of, packed}
 use Rattle.card.specs.Verdict.{is-number, pieces, value-of}
 use Rattle.card.proofs.Packing.{packed-at}
@@ -89,3 +90,32 @@ module _ (bs : List ℕ) (l : NumberList) (h : Holds l (map value-of (pieces bs)
 
         pub scope-good : true ≡ distinct-test eqb (take (l .count) (l .numbers)) → Ok l ≡ scope-checked n bs
         scope-good e = ap Ok (holds-is l (map value-of (pieces bs)) h) ∙ sym (rw (form, sized, ranged, apart e))
+
+  -- the checks of a tuple
+  module _ (arity : ℕ) (last : List ℕ) where
+    pub tuple-other : (l .count ≡ arity → ⊥) → Err Malformed ≡ tuple-checked arity last bs
+    tuple-other k =
+        sym (rw (and-right (all-pass is-number (pieces bs)) (eqb (length (pieces bs)) arity) (ne-eqb (length (pieces bs)) arity (λ e. k (held-count ∙ e)))))
+
+    module _ (form : all-pass is-number (pieces bs) ≡ true) (as-many : l .count ≡ arity) (few : arity ≤ 6) where
+      formed : (all-pass is-number (pieces bs) && eqb (length (pieces bs)) arity) ≡ true
+      formed = and-from _ _ form (eq-eqb (length (pieces bs)) arity (sym held-count ∙ as-many))
+
+      slots : all-pass (λ x. ltb x 32) (take arity (l .numbers)) ≡ all-pass (λ p. ltb (value-of p) 32) (pieces bs)
+      slots = ap (λ k. all-pass (λ x. ltb x 32) (take k (l .numbers))) (sym as-many) ∙ held-below (omega arith) 32 (omega arith)
+
+      pub tuple-out : false ≡ all-pass (λ x. ltb x 32) (take arity (l .numbers)) → Err OutOfRange ≡ tuple-checked arity last bs
+      tuple-out e = sym (rw (formed, sym slots ∙ sym e))
+
+      module _ (inside : true ≡ all-pass (λ x. ltb x 32) (take arity (l .numbers))) where
+        slotted : all-pass (λ p. ltb (value-of p) 32) (pieces bs) ≡ true
+        slotted = sym slots ∙ sym inside
+
+        after : {b : Bool} → b ≡ precedes last (take arity (l .numbers)) → precedes last (map value-of (pieces bs)) ≡ b
+        after e = ap (precedes last) (sym (held-values (omega arith) 32 (omega arith) slotted) ∙ ap (λ k. take k (l .numbers)) as-many) ∙ sym e
+
+        pub tuple-late : false ≡ precedes last (take arity (l .numbers)) → Err Repeated ≡ tuple-checked arity last bs
+        tuple-late e = sym (rw (formed, slotted, after e))
+
+        pub tuple-good : true ≡ precedes last (take arity (l .numbers)) → Ok l ≡ tuple-checked arity last bs
+        tuple-good e = ap Ok (holds-is l (map value-of (pieces bs)) h) ∙ sym (rw (formed, slotted, after e))

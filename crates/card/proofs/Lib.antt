@@ -7,6 +7,7 @@ pub mod Capped
 pub mod Packing
 pub mod Keys
 pub mod Checking
+pub mod Before
 pub mod Passages
 pub mod Accepted
 pub mod Keyed

@@ -46,19 +46,19 @@ scoped r some small is = numbered-list r some (codes "scope") (refl, refl)
 
 -- a row's line: a slot for each block of the scope, and above the row before it
 pub rowed : (r : Reading) (k : ℕ) (kind : Kind) (scope : List ℕ) (j : ℕ) (ts : List (List ℕ)) → 2 ≤ length scope →
-    Passage (at (row-due k kind scope j ts) r) (λ u. ((length u ≡ length scope) × All (λ s. s ≤ 31) u) × (above-last ts u ≡ true)) (with-key (codes "row") listed)
+    Passage (at (row-due k kind scope j ts) r) (λ u. ((length u ≡ length scope) × All (λ s. s < 32) u) × (above-last ts u ≡ true)) (with-key (codes "row") listed)
     (λ u. row-or-next k kind scope j (ts ++ (u ∷ [])) r)
 rowed r k kind scope j ts two = numbered-list _ (λ e. never cc) (codes "row") (refl, refl)
     (λ bs. all-pass is-number (pieces bs) && eqb (length (pieces bs)) (length scope)) (λ _. true)
-    (λ bs. all-pass (λ p. leb (value-of p) 31) (pieces bs)) (λ bs. above-last ts (values-of bs)) (λ _ bs. rw (same j (ts ++ (values-of bs ∷ []))))
+    (λ bs. all-pass (λ p. ltb (value-of p) 32) (pieces bs)) (λ bs. above-last ts (values-of bs)) (λ _ bs. rw (same j (ts ++ (values-of bs ∷ []))))
     (λ bs a _ c d.
     let (n, e) = and-parts (all-pass is-number (pieces bs)) _ a in
     (n, ((length-map (pieces bs) value-of ∙ eqb-true _ _ e, upto bs .0 c), d)))
     (λ bs n h. (and-from _ _ n (eq-eqb _ _ (sym (length-map (pieces bs) value-of) ∙ h .0 .0)), refl, upto bs .1 (h .0 .1), h .1))
     (λ xs h. (omega arith, all-weaker _ _ (λ x s. omega arith) xs (h .0 .1)))
   where
-    upto : (bs : List ℕ) → Decides (all-pass (λ p. leb (value-of p) 31) (pieces bs)) (All (λ s. s ≤ 31) (values-of bs))
-    upto = pieces-pass (λ n. leb n 31) (λ n. n ≤ 31) (λ n. decides-leb n 31)
+    upto : (bs : List ℕ) → Decides (all-pass (λ p. ltb (value-of p) 32) (pieces bs)) (All (λ s. s < 32) (values-of bs))
+    upto = pieces-pass (λ n. ltb n 32) (λ n. n < 32) (λ n. decides-leb (suc n) 32)
 
     same : (i : ℕ) (us : List (List ℕ)) → row-or-next k kind scope i us (at (row-due k kind scope j ts) r) ≡ row-or-next k kind scope i us r
     same zero us = refl

@@ -69,9 +69,9 @@ climbs-push (t ∷ ts) u = climbs-from-push t ts u
 
 -- the rows of one table, after r
 rows-passage : (r : Reading) (k : ℕ) (kind : Kind) (scope : List ℕ) → 2 ≤ length scope → (m : ℕ) →
-    Passage (row-or-next k kind scope m [] r) (λ us. (length us ≡ m) × (All (λ u. (length u ≡ length scope) × All (λ s. s ≤ 31) u) us × (climbs us ≡ true)))
+    Passage (row-or-next k kind scope m [] r) (λ us. (length us ≡ m) × (All (λ u. (length u ≡ length scope) × All (λ s. s < 32) u) us × (climbs us ≡ true)))
     (joined (with-key (codes "row") listed)) (λ us. row-or-next k kind scope 0 us r)
-rows-passage r k kind scope two m = times (λ u. (length u ≡ length scope) × All (λ s. s ≤ 31) u) (λ us. climbs us ≡ true) (with-key (codes "row") listed)
+rows-passage r k kind scope two m = times (λ u. (length u ≡ length scope) × All (λ s. s < 32) u) (λ us. climbs us ≡ true) (with-key (codes "row") listed)
     (λ j us. row-or-next k kind scope j us r) climbs-front
     (λ j us h. within (rowed r k kind scope j us two)
     (λ u l. (l .0, climbs-push us u ∙ and-from _ _ h (l .1))) (λ u l. (l .0, and-parts _ _ (sym (climbs-push us u) ∙ l .1) .1)))

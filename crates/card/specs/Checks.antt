@@ -7,6 +7,7 @@ use lib.ListN.{length}
 use Rattle.std.specs.declared.result.Result.{Result}
 use Rattle.std.specs.declared.result.Result.the-variants.{Err, Ok}
 use Rattle.std.specs.shelf.Lawful.{all-pass, distinct-test}
+use Rattle.network.specs.Tree.{precedes}
 use Rattle.network.specs.declared.refusal.Refusal.{Refusal}
 use Rattle.network.specs.declared.refusal.Refusal.the-variants.{LimitExceeded, Malformed, OutOfRange, Repeated}
 use Rattle.card.specs.declared.list.NumberList.{NumberList}
@@ -25,3 +26,9 @@ abbrev pub scope-checked : ℕ → List ℕ → Result NumberList Refusal
 scope-checked n bs =
     checked (all-pass is-number (pieces bs)) (leb 2 (length (pieces bs)) && leb (length (pieces bs)) 6) (all-pass (λ p. ltb (value-of p) n) (pieces bs))
     (distinct-test eqb (map value-of (pieces bs))) (list-of (map value-of (pieces bs)))
+
+-- a slot for each block of a scope, above the last tuple
+abbrev pub tuple-checked : ℕ → List ℕ → List ℕ → Result NumberList Refusal
+tuple-checked arity last bs =
+    checked (all-pass is-number (pieces bs) && eqb (length (pieces bs)) arity) true (all-pass (λ p. ltb (value-of p) 32) (pieces bs))
+    (precedes last (map value-of (pieces bs))) (list-of (map value-of (pieces bs)))

@@ -38,7 +38,7 @@ pub record ScopeWithin (n : ℕ) (scope : List ℕ) : Type 0 where
 
 pub record TableWithin (n : ℕ) (t : Table) : Type 0 where
   pub scope : ScopeWithin n (t .scope)
-  pub tuples : All (λ u. (length u ≡ length (t .scope)) × All (λ s. s ≤ 31) u) (t .tuples)
+  pub tuples : All (λ u. (length u ≡ length (t .scope)) × All (λ s. s < 32) u) (t .tuples)
   pub ascend : climbs (t .tuples) ≡ true
 
 pub record Within (x : Network) : Type 0 where

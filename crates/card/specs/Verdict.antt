@@ -159,7 +159,7 @@ judge r (rows-due k kind scope) key value =
     (row-or-next k kind scope (value-of value) [] (record { due = r .due; blocks = r .blocks; tuples = r .tuples + value-of value; net = r .net }))
 judge r (row-due k kind scope j ts) key value =
     judged (same-bytes key (codes "row") && (all-pass is-number (pieces value) && eqb (length (pieces value)) (length scope))) true
-    (all-pass (λ p. leb (value-of p) 31) (pieces value)) (above-last ts (map value-of (pieces value)))
+    (all-pass (λ p. ltb (value-of p) 32) (pieces value)) (above-last ts (map value-of (pieces value)))
     (row-or-next k kind scope j (ts ++ (map value-of (pieces value) ∷ [])) r)
 judge r rules-due key value =
     judged (same-bytes key (codes "rules") && is-number value) (leb (value-of value) 192) true true (at (rule-or-end (value-of value)) r)

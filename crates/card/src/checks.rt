@@ -1,6 +1,7 @@
 // The checks of a line's value: its form, its limits, its range, its repetitions.
 ghost use Prim.Native.Nat.{_^_, _<_, _≤_};
-ghost use Rattle.card.specs.Checks.{number-checked, scope-checked};
+ghost use Rattle.card.specs.Checks.{number-checked, scope-checked, tuple-checked};
+ghost use Rattle.network.specs.Tree.{precedes};
 ghost use Rattle.std.specs.shelf.Lawful.{all-pass};
 ghost use lib.Dec.{ltb};
 ghost use lib.ListN.{length};
@@ -8,6 +9,7 @@ ghost use mathlib.Core.Path.{_≡_};
 use crate::list::NumberList;
 use crate::number::number;
 use banks::all_distinct;
+use network::mask::SLOTS;
 use network::refusal::Refusal;
 
 const MIN_ARITY: usize = 2;
@@ -53,6 +55,42 @@ pub fn scope_in(value: &[u8], blocks: usize) -> Result<NumberList, Refusal>
         return Err(Refusal::OutOfRange);
     }
     if !all_distinct(scope) {
+        return Err(Refusal::Repeated);
+    }
+    Ok(list)
+}
+
+// Whether the first list comes before the second, by the first place where they differ.
+fn comes_before(a: &[u8], b: &[u8]) -> bool
+    ensures { λ r. ⌜ r ≡ precedes (now (a .entry)) (now (b .entry)) ⌝ }
+{
+    for i in 0..b.len() {
+        if i >= a.len() {
+            return true;
+        }
+        if a[i] != b[i] {
+            return a[i] < b[i];
+        }
+    }
+    false
+}
+
+// A slot for each block of a scope, in a tuple above the last one.
+pub fn tuple_in(value: &[u8], arity: usize, last: &[u8]) -> Result<NumberList, Refusal>
+    requires { ⌜ length (now value) < 2 ^ 63 ⌝ ∗ ⌜ arity ≤ 6 ⌝ }
+    ensures { λ r. ⌜ r ≡ tuple-checked arity (now (last .entry)) (now (value .entry)) ⌝ }
+{
+    let Some(list) = NumberList::read(value) else {
+        return Err(Refusal::Malformed);
+    };
+    if list.count != arity {
+        return Err(Refusal::Malformed);
+    }
+    let tuple = &list.numbers[0..arity];
+    if !all_below(tuple, SLOTS as usize) {
+        return Err(Refusal::OutOfRange);
+    }
+    if !comes_before(last, tuple) {
         return Err(Refusal::Repeated);
     }
     Ok(list)
