@@ -5,6 +5,7 @@ pub mod Lines
 pub mod Cuts
 pub mod Capped
 pub mod Packing
+pub mod Texts
 pub mod Keys
 pub mod Checking
 pub mod Before

@@ -4,5 +4,7 @@ pub mod Parts
 pub mod Lists
 pub mod Checks
 pub mod Kinds
+pub mod Words
+pub mod Stages
 pub mod Sheets
 pub mod Example

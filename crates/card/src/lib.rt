@@ -4,3 +4,5 @@ mod line;
 mod list;
 mod number;
 mod place;
+mod stage;
+mod word;

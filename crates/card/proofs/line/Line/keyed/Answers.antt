@@ -1,23 +1,8 @@
-use mathlib.Core.Bool.{Bool, true, false}
-use mathlib.Core.List.{List}
-use mathlib.Core.Path.{_≡_, refl, sym}
-use Prim.Native.Nat.{ℕ}
+use mathlib.Core.Path.{refl}
 use lib.Chars.{codes}
-use Rattle.std.specs.Lexical.{Matches}
-use Rattle.std.specs.Orderings.{Decides}
-use Rattle.std.proofs.shelf.Equals.{matches-decides}
-use Rattle.std.proofs.shelf.Ways.{not-from-decides}
+use Rattle.card.proofs.Texts.{other, same}
 use Rattle.card.proofs.Keys.{unknown-key}
 use Rattle.card.proofs.line.Line.keyed.Needs as need
-
-abbrev Compared : List ℕ → List ℕ → Bool → Type 0
-Compared xs ys r = Matches (λ (a b : ℕ) (t : Bool). Decides t (a ≡ b)) xs ys r
-
-same : (key word : List ℕ) (r : Bool) → Compared key word r → r ≡ true → word ≡ key
-same key word r m e = sym (matches-decides key word r m .0 e)
-
-other : (key word : List ℕ) (r : Bool) → Compared key word r → r ≡ false → key ≡ word → ⊥
-other key word r m e = not-from-decides r (matches-decides key word r m) e
 
 pub returns-then-eq : need.returns-then-eq
 returns-then-eq c = (same (c .args .key .now) (codes "blocks") (c .eq .result) (c .eq .ensures) (c .if-eq .taken), refl)
