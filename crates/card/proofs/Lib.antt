@@ -9,6 +9,7 @@ pub mod Texts
 pub mod Keys
 pub mod Checking
 pub mod Before
+pub mod Stepping
 pub mod Passages
 pub mod Accepted
 pub mod Keyed

@@ -6,5 +6,6 @@ pub mod Checks
 pub mod Kinds
 pub mod Words
 pub mod Stages
+pub mod Steps
 pub mod Sheets
 pub mod Example

@@ -1,8 +1,10 @@
 // Cards: a network as text, its judgement and its reading.
 mod checks;
+mod entry;
 mod line;
 mod list;
 mod number;
 mod place;
 mod stage;
+mod step;
 mod word;

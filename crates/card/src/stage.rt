@@ -32,7 +32,7 @@ pub struct Stage {
 }
 
 impl Expected {
-    fn open_or_sheets(more: usize) -> Expected
+    pub fn open_or_sheets(more: usize) -> Expected
         ensures { λ r. ⌜ r ≡ expected-of (open-or-sheets more) ⌝ }
     {
         if more == 0 {
@@ -42,7 +42,7 @@ impl Expected {
         }
     }
 
-    fn kind_or_rules(more: usize) -> Expected
+    pub fn kind_or_rules(more: usize) -> Expected
         ensures { λ r. ⌜ r ≡ expected-of (kind-or-rules more) ⌝ }
     {
         if more == 0 {
@@ -52,7 +52,7 @@ impl Expected {
         }
     }
 
-    fn rule_or_end(more: usize) -> Expected
+    pub fn rule_or_end(more: usize) -> Expected
         ensures { λ r. ⌜ r ≡ expected-of (rule-or-end more) ⌝ }
     {
         if more == 0 {

@@ -1,0 +1,113 @@
+// One line more: the stage after it, and what it adds to the network.
+ghost use Prim.Native.Nat.{_^_, _<_, _≤_};
+ghost use Rattle.card.specs.Stages.{stage-of};
+ghost use Rattle.card.specs.Steps.{answered, step-of-stage};
+ghost use Rattle.card.specs.Verdict.{Reading, blocks-due, end-due, kind-due, open-due, rule-due, rule-scope-due, rules-due, scope-due, sheets-due};
+ghost use lib.Chars.{codes};
+ghost use lib.ListN.{length};
+ghost use mathlib.Core.Path.{_≡_};
+use crate::checks::number_in;
+use crate::checks::scope_in;
+use crate::entry::Entry;
+use crate::entry::Step;
+use crate::stage::Expected;
+use crate::stage::Stage;
+use crate::word::kind_in;
+use crate::word::net_in;
+use crate::word::rule_in;
+use banks::rule::Rule;
+use banks::table::Kind;
+use network::refusal::Refusal;
+
+const MAX_BLOCKS: usize = 32;
+
+const MAX_MASK: usize = 4294967295;
+
+const MAX_TABLES: usize = 32;
+
+const MAX_RULES: usize = 192;
+
+impl Stage {
+    // The same blocks and tuples, with another line due.
+    fn then(self, next: Expected, entry: Entry) -> Step
+        ensures { λ r. ⌜ r ≡ step-of-stage self next entry ⌝ }
+    {
+        Step {
+            stage: Stage { next, ..self },
+            entry,
+        }
+    }
+
+    fn after_blocks(value: &[u8]) -> Result<Step, Refusal>
+        ensures { λ r. ⌜ ((q : Reading) → r ≡ answered q blocks-due (codes "blocks") (now (value .entry))) ⌝ }
+    {
+        let blocks = number_in(value, 1, MAX_BLOCKS)?;
+        let stage = Stage {
+            next: Expected::open_or_sheets(blocks),
+            blocks,
+            tuples: 0,
+        };
+        Ok(Step {
+            stage,
+            entry: Entry::Nothing,
+        })
+    }
+
+    fn after_open(self, more: usize, value: &[u8]) -> Result<Step, Refusal>
+        ensures { λ r. ⌜ ((q : Reading) → self ≡ stage-of q → r ≡ answered q (open-due more) (codes "open") (now (value .entry))) ⌝ }
+    {
+        let mask = number_in(value, 0, MAX_MASK)?;
+        Ok(self.then(Expected::open_or_sheets(more), Entry::Mask(mask as u32)))
+    }
+
+    fn after_sheets(self, value: &[u8]) -> Result<Step, Refusal>
+        ensures { λ r. ⌜ ((q : Reading) → self ≡ stage-of q → r ≡ answered q sheets-due (codes "sheets") (now (value .entry))) ⌝ }
+    {
+        let tables = number_in(value, 0, MAX_TABLES)?;
+        Ok(self.then(Expected::kind_or_rules(tables), Entry::Nothing))
+    }
+
+    fn after_kind(self, more: usize, value: &[u8]) -> Result<Step, Refusal>
+        ensures { λ r. ⌜ ((q : Reading) → self ≡ stage-of q → r ≡ answered q (kind-due more) (codes "kind") (now (value .entry))) ⌝ }
+    {
+        let kind = kind_in(value)?;
+        Ok(self.then(Expected::Scope(more, kind), Entry::Nothing))
+    }
+
+    fn after_scope(self, more: usize, kind: Kind, value: &[u8]) -> Result<Step, Refusal>
+        requires { ⌜ length (now value) < 2 ^ 63 ⌝ ∗ ⌜ self .blocks ≤ 32 ⌝ }
+        ensures { λ r. ⌜ ((q : Reading) → self ≡ stage-of q → r ≡ answered q (scope-due more kind) (codes "scope") (now (value .entry))) ⌝ }
+    {
+        let scope = scope_in(value, self.blocks)?;
+        Ok(self.then(Expected::Tuples(more, kind, scope), Entry::Nothing))
+    }
+
+    fn after_rules(self, value: &[u8]) -> Result<Step, Refusal>
+        ensures { λ r. ⌜ ((q : Reading) → self ≡ stage-of q → r ≡ answered q rules-due (codes "rules") (now (value .entry))) ⌝ }
+    {
+        let rules = number_in(value, 0, MAX_RULES)?;
+        Ok(self.then(Expected::rule_or_end(rules), Entry::Nothing))
+    }
+
+    fn after_rule(self, more: usize, value: &[u8]) -> Result<Step, Refusal>
+        ensures { λ r. ⌜ ((q : Reading) → self ≡ stage-of q → r ≡ answered q (rule-due more) (codes "rule") (now (value .entry))) ⌝ }
+    {
+        let rule = rule_in(value)?;
+        Ok(self.then(Expected::RuleScope(more, rule), Entry::Nothing))
+    }
+
+    fn after_rule_scope(self, more: usize, rule: Rule, value: &[u8]) -> Result<Step, Refusal>
+        requires { ⌜ length (now value) < 2 ^ 63 ⌝ ∗ ⌜ self .blocks ≤ 32 ⌝ }
+        ensures { λ r. ⌜ ((q : Reading) → self ≡ stage-of q → r ≡ answered q (rule-scope-due more rule) (codes "scope") (now (value .entry))) ⌝ }
+    {
+        let scope = scope_in(value, self.blocks)?;
+        Ok(self.then(Expected::rule_or_end(more), Entry::Rule(rule, scope)))
+    }
+
+    fn after_end(self, value: &[u8]) -> Result<Step, Refusal>
+        ensures { λ r. ⌜ ((q : Reading) → self ≡ stage-of q → r ≡ answered q end-due (codes "end") (now (value .entry))) ⌝ }
+    {
+        net_in(value)?;
+        Ok(self.then(Expected::Nothing, Entry::Nothing))
+    }
+}
