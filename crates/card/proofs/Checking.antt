@@ -45,6 +45,10 @@ same-min n (x ∷ xs) l e =
     let h : x < n = ltb-true x n a in
     ap₂ (λ y ys. y ∷ ys) (omega arith) (same-min n xs l b)
 
+-- six slots at most stand in a list as they are
+pub packed-front : (xs : List ℕ) → length xs ≤ 6 → all-pass (λ x. ltb x 32) xs ≡ true → take (length xs) (packed xs) ≡ xs
+packed-front xs l e = front xs l ∙ same-min 32 xs (omega arith) e
+
 -- the numbers that a list holds, where there are at most six
 module _ (bs : List ℕ) (l : NumberList) (h : Holds l (map value-of (pieces bs))) where
   pub held-count : l .count ≡ length (pieces bs)

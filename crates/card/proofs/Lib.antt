@@ -10,6 +10,7 @@ pub mod Keys
 pub mod Checking
 pub mod Before
 pub mod Stepping
+pub mod Tupling
 pub mod Passages
 pub mod Accepted
 pub mod Keyed

@@ -6,8 +6,9 @@ use mathlib.Core.Path.{_≡_, refl, sym, ap, ap₂, _∙_}
 use lib.Chars.{codes}
 use lib.Dec.{eqb, leb, ltb}
 use lib.ListN.{length}
-use Rattle.std.specs.declared.result.Result.the-variants.{Ok}
+use Rattle.std.specs.declared.result.Result.the-variants.{Err, Ok}
 use Rattle.std.specs.shelf.Lawful.{all-pass, distinct-test}
+use Rattle.network.specs.declared.refusal.Refusal.{Refusal}
 use Rattle.banks.specs.declared.table.Kind.{Kind}
 use Rattle.card.specs.declared.entry.Entry.{Entry}
 use Rattle.card.specs.declared.entry.Entry.the-variants.{Nothing}
@@ -24,6 +25,13 @@ use Rattle.card.specs.Verdict.{at, Due, is-number, judged, pieces, Reading, ro
 use Rattle.card.proofs.Tests.{never}
 
 -- the checks of a value, and those of its line
+pub stops : {A : Type 0} (a b c d : Bool) (v : A) (p : Reading) (x : Entry) (e : Refusal) → Err e ≡ checked a b c d v → Err e ≡ answer (judged a b c d p) x
+stops true true true true v p x e h = absurd (never cc)
+stops true true true false v p x e h = cc
+stops true true false d v p x e h = cc
+stops true false c d v p x e h = cc
+stops false b c d v p x e h = cc
+
 pub goes : {A : Type 0} (a b c d : Bool) (v : A) (p : Reading) (x : Entry) (w : A) → Ok w ≡ checked a b c d v → (w ≡ v) × (answer (judged a b c d p) x ≡ Ok (step-of p x))
 goes true true true true v p x w h = (cc, refl)
 goes true true true false v p x w h = absurd (never cc)

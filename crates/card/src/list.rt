@@ -19,7 +19,7 @@ pub struct NumberList {
 }
 
 impl NumberList {
-    fn empty() -> Self
+    pub fn empty() -> Self
         ensures { λ r. ⌜ Holds r [] ⌝ }
     {
         NumberList {

@@ -1,6 +1,10 @@
 // How far a card has been read: what is due, and what its checks need to know.
-ghost use Rattle.card.specs.Stages.{expected-of};
-ghost use Rattle.card.specs.Verdict.{kind-or-rules, open-or-sheets, rule-or-end};
+ghost use Prim.Native.Nat.{ℕ};
+ghost use Rattle.card.specs.Lists.{list-of};
+ghost use Rattle.card.specs.Stages.{expected-of, stage-of};
+ghost use Rattle.card.specs.Verdict.{Reading, kind-or-rules, last-tuple, open-or-sheets, row-or-next, rule-or-end};
+ghost use lib.ListN.{length};
+ghost use mathlib.Core.List.{List};
 ghost use mathlib.Core.Path.{_≡_};
 use crate::list::NumberList;
 use banks::rule::Rule;
@@ -59,6 +63,18 @@ impl Expected {
             Expected::End
         } else {
             Expected::Rule(more - 1)
+        }
+    }
+
+    // The next tuple of a table, or what comes after it.
+    pub fn tuple_or_next(more: usize, arity: usize, left: usize, last: NumberList) -> Expected
+        ensures { λ r. ⌜ ((kind : Kind) (scope : List ℕ) (ts : List (List ℕ)) (q : Reading) → arity ≡ length scope → last ≡ list-of (last-tuple ts) →
+            r ≡ stage-of (row-or-next more kind scope left ts q) .next) ⌝ }
+    {
+        if left == 0 {
+            Expected::kind_or_rules(more)
+        } else {
+            Expected::Tuple(more, arity, left - 1, last)
         }
     }
 }

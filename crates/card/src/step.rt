@@ -1,15 +1,22 @@
 // One line more: the stage after it, and what it adds to the network.
-ghost use Prim.Native.Nat.{_^_, _<_, _≤_};
+ghost use Prim.Native.Nat.{_^_, _<_, _≤_, ℕ};
+ghost use Rattle.card.specs.Lists.{list-of};
 ghost use Rattle.card.specs.Stages.{stage-of};
 ghost use Rattle.card.specs.Steps.{answered, step-of-stage};
-ghost use Rattle.card.specs.Verdict.{Reading, blocks-due, end-due, kind-due, open-due, rule-due, rule-scope-due, rules-due, scope-due, sheets-due};
+ghost use Rattle.card.specs.Verdict.{Reading, blocks-due, end-due, kind-due, last-tuple, open-due, row-due, rows-due, rule-due, rule-scope-due, rules-due, scope-due, sheets-due};
+ghost use Rattle.std.specs.shelf.Lawful.{all-pass};
 ghost use lib.Chars.{codes};
+ghost use lib.Dec.{ltb};
 ghost use lib.ListN.{length};
+ghost use mathlib.Core.Bool.{true};
+ghost use mathlib.Core.List.{List};
 ghost use mathlib.Core.Path.{_≡_};
 use crate::checks::number_in;
 use crate::checks::scope_in;
+use crate::checks::tuple_in;
 use crate::entry::Entry;
 use crate::entry::Step;
+use crate::list::NumberList;
 use crate::stage::Expected;
 use crate::stage::Stage;
 use crate::word::kind_in;
@@ -24,6 +31,8 @@ const MAX_BLOCKS: usize = 32;
 const MAX_MASK: usize = 4294967295;
 
 const MAX_TABLES: usize = 32;
+
+const MAX_TUPLES: usize = 4096;
 
 const MAX_RULES: usize = 192;
 
@@ -80,6 +89,42 @@ impl Stage {
     {
         let scope = scope_in(value, self.blocks)?;
         Ok(self.then(Expected::Tuples(more, kind, scope), Entry::Nothing))
+    }
+
+    fn after_tuples(
+        self,
+        more: usize,
+        kind: Kind,
+        scope: NumberList,
+        value: &[u8],
+    ) -> Result<Step, Refusal>
+        requires { ⌜ self .tuples ≤ 4096 ⌝ }
+        ensures { λ r. ⌜ ((q : Reading) (blocks : List ℕ) → self ≡ stage-of q → scope ≡ list-of blocks → r ≡ answered q (rows-due more kind blocks) (codes "rows") (now (value .entry))) ⌝ }
+    {
+        let tuples = number_in(value, 0, MAX_TUPLES - self.tuples)?;
+        let next = Expected::tuple_or_next(more, scope.count, tuples, NumberList::empty());
+        let stage = Stage {
+            tuples: self.tuples + tuples,
+            ..self
+        };
+        Ok(stage.then(next, Entry::Table(kind, scope, tuples)))
+    }
+
+    fn after_tuple(
+        self,
+        more: usize,
+        arity: usize,
+        left: usize,
+        last: NumberList,
+        value: &[u8],
+    ) -> Result<Step, Refusal>
+        requires { ⌜ length (now value) < 2 ^ 63 ⌝ ∗ ⌜ arity ≤ 6 ⌝ ∗ ⌜ last .count ≤ 6 ⌝ }
+        ensures { λ r. ⌜ ((q : Reading) (kind : Kind) (scope : List ℕ) (ts : List (List ℕ)) → self ≡ stage-of q → arity ≡ length scope → last ≡ list-of (last-tuple ts) →
+            all-pass (λ x. ltb x 32) (last-tuple ts) ≡ true → r ≡ answered q (row-due more kind scope left ts) (codes "row") (now (value .entry))) ⌝ }
+    {
+        let tuple = tuple_in(value, arity, &last.numbers[0..last.count])?;
+        let next = Expected::tuple_or_next(more, arity, left, tuple);
+        Ok(self.then(next, Entry::Tuple(tuple)))
     }
 
     fn after_rules(self, value: &[u8]) -> Result<Step, Refusal>
