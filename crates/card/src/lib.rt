@@ -1,4 +1,5 @@
 // Cards: a network as text, its judgement and its reading.
+mod advance;
 mod checks;
 mod entry;
 mod line;

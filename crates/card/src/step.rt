@@ -47,7 +47,7 @@ impl Stage {
         }
     }
 
-    fn after_blocks(value: &[u8]) -> Result<Step, Refusal>
+    pub fn after_blocks(value: &[u8]) -> Result<Step, Refusal>
         ensures { λ r. ⌜ ((q : Reading) → r ≡ answered q blocks-due (codes "blocks") (now (value .entry))) ⌝ }
     {
         let blocks = number_in(value, 1, MAX_BLOCKS)?;
@@ -62,28 +62,28 @@ impl Stage {
         })
     }
 
-    fn after_open(self, more: usize, value: &[u8]) -> Result<Step, Refusal>
+    pub fn after_open(self, more: usize, value: &[u8]) -> Result<Step, Refusal>
         ensures { λ r. ⌜ ((q : Reading) → self ≡ stage-of q → r ≡ answered q (open-due more) (codes "open") (now (value .entry))) ⌝ }
     {
         let mask = number_in(value, 0, MAX_MASK)?;
         Ok(self.then(Expected::open_or_sheets(more), Entry::Mask(mask as u32)))
     }
 
-    fn after_sheets(self, value: &[u8]) -> Result<Step, Refusal>
+    pub fn after_sheets(self, value: &[u8]) -> Result<Step, Refusal>
         ensures { λ r. ⌜ ((q : Reading) → self ≡ stage-of q → r ≡ answered q sheets-due (codes "sheets") (now (value .entry))) ⌝ }
     {
         let tables = number_in(value, 0, MAX_TABLES)?;
         Ok(self.then(Expected::kind_or_rules(tables), Entry::Nothing))
     }
 
-    fn after_kind(self, more: usize, value: &[u8]) -> Result<Step, Refusal>
+    pub fn after_kind(self, more: usize, value: &[u8]) -> Result<Step, Refusal>
         ensures { λ r. ⌜ ((q : Reading) → self ≡ stage-of q → r ≡ answered q (kind-due more) (codes "kind") (now (value .entry))) ⌝ }
     {
         let kind = kind_in(value)?;
         Ok(self.then(Expected::Scope(more, kind), Entry::Nothing))
     }
 
-    fn after_scope(self, more: usize, kind: Kind, value: &[u8]) -> Result<Step, Refusal>
+    pub fn after_scope(self, more: usize, kind: Kind, value: &[u8]) -> Result<Step, Refusal>
         requires { ⌜ length (now value) < 2 ^ 63 ⌝ ∗ ⌜ self .blocks ≤ 32 ⌝ }
         ensures { λ r. ⌜ ((q : Reading) → self ≡ stage-of q → r ≡ answered q (scope-due more kind) (codes "scope") (now (value .entry))) ⌝ }
     {
@@ -91,7 +91,7 @@ impl Stage {
         Ok(self.then(Expected::Tuples(more, kind, scope), Entry::Nothing))
     }
 
-    fn after_tuples(
+    pub fn after_tuples(
         self,
         more: usize,
         kind: Kind,
@@ -110,7 +110,7 @@ impl Stage {
         Ok(stage.then(next, Entry::Table(kind, scope, tuples)))
     }
 
-    fn after_tuple(
+    pub fn after_tuple(
         self,
         more: usize,
         arity: usize,
@@ -127,21 +127,21 @@ impl Stage {
         Ok(self.then(next, Entry::Tuple(tuple)))
     }
 
-    fn after_rules(self, value: &[u8]) -> Result<Step, Refusal>
+    pub fn after_rules(self, value: &[u8]) -> Result<Step, Refusal>
         ensures { λ r. ⌜ ((q : Reading) → self ≡ stage-of q → r ≡ answered q rules-due (codes "rules") (now (value .entry))) ⌝ }
     {
         let rules = number_in(value, 0, MAX_RULES)?;
         Ok(self.then(Expected::rule_or_end(rules), Entry::Nothing))
     }
 
-    fn after_rule(self, more: usize, value: &[u8]) -> Result<Step, Refusal>
+    pub fn after_rule(self, more: usize, value: &[u8]) -> Result<Step, Refusal>
         ensures { λ r. ⌜ ((q : Reading) → self ≡ stage-of q → r ≡ answered q (rule-due more) (codes "rule") (now (value .entry))) ⌝ }
     {
         let rule = rule_in(value)?;
         Ok(self.then(Expected::RuleScope(more, rule), Entry::Nothing))
     }
 
-    fn after_rule_scope(self, more: usize, rule: Rule, value: &[u8]) -> Result<Step, Refusal>
+    pub fn after_rule_scope(self, more: usize, rule: Rule, value: &[u8]) -> Result<Step, Refusal>
         requires { ⌜ length (now value) < 2 ^ 63 ⌝ ∗ ⌜ self .blocks ≤ 32 ⌝ }
         ensures { λ r. ⌜ ((q : Reading) → self ≡ stage-of q → r ≡ answered q (rule-scope-due more rule) (codes "scope") (now (value .entry))) ⌝ }
     {
@@ -149,7 +149,7 @@ impl Stage {
         Ok(self.then(Expected::rule_or_end(more), Entry::Rule(rule, scope)))
     }
 
-    fn after_end(self, value: &[u8]) -> Result<Step, Refusal>
+    pub fn after_end(self, value: &[u8]) -> Result<Step, Refusal>
         ensures { λ r. ⌜ ((q : Reading) → self ≡ stage-of q → r ≡ answered q end-due (codes "end") (now (value .entry))) ⌝ }
     {
         net_in(value)?;
