@@ -11,7 +11,7 @@ use Rattle.card.specs.declared.entry.Entry.the-variants.{Mask, Nothing, Rule, 
 use Rattle.card.specs.declared.entry.Step.{Step}
 use Rattle.card.specs.Lists.{list-of}
 use Rattle.card.specs.Stages.{stage-of}
-use Rattle.card.specs.Verdict.{blocks-due, Due, end-due, faulty, good, judge, Judged, kind-due, nothing-due, open-due, pieces, Reading, row-due, rows-due, rule-due, rule-scope-due, rules-due, scope-due, sheets-due, value-of}
+use Rattle.card.specs.Verdict.{blocks-due, cut, Due, end-due, faulty, good, judge, judge-line, Judged, kind-due, nothing-due, open-due, pieces, Reading, row-due, rows-due, rule-due, rule-scope-due, rules-due, scope-due, sheets-due, value-of}
 
 -- what a good line with that value adds where it is due
 abbrev pub entry-of : Due → List ℕ → Entry
@@ -40,3 +40,7 @@ answer (good r) x = Ok (step-of r x)
 
 abbrev pub answered : Reading → Due → List ℕ → List ℕ → Result Step Refusal
 answered r d key bs = answer (judge r d key bs) (entry-of d bs)
+
+-- the same of a line's bytes, its equals sign included
+abbrev pub line-answered : Reading → List ℕ → Result Step Refusal
+line-answered r bs = answer (judge-line r bs) (entry-of (r .due) (cut 61 bs .back))

@@ -2,7 +2,7 @@
 ghost use Prim.Native.Nat.{_^_, _<_};
 ghost use Rattle.card.specs.Kinds.{bytes-of, key-of};
 ghost use Rattle.card.specs.Stages.{Fit, SlotsOnly, stage-of};
-ghost use Rattle.card.specs.Steps.{answered};
+ghost use Rattle.card.specs.Steps.{answered, line-answered};
 ghost use Rattle.card.specs.Verdict.{Reading};
 ghost use lib.ListN.{length};
 ghost use mathlib.Core.Path.{_≡_};
@@ -42,5 +42,16 @@ impl Stage {
             (Expected::End, Line::End(value)) => self.after_end(value),
             _ => Err(Refusal::Malformed),
         }
+    }
+
+    // The step that the bytes before a newline make.
+    pub fn step_over(self, bytes: &[u8]) -> Result<Step, Refusal>
+        requires { ⌜ Fit self ⌝ ∗ ⌜ length (now bytes) < 2 ^ 63 ⌝ }
+        ensures { λ r. ⌜ ((q : Reading) → SlotsOnly (q .due) → self ≡ stage-of q → r ≡ line-answered q (now (bytes .entry))) ⌝ }
+    {
+        let Some(line) = Line::read(bytes) else {
+            return Err(Refusal::Malformed);
+        };
+        self.step(line)
     }
 }
