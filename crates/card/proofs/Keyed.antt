@@ -24,7 +24,7 @@ pub no-good : {P : Type 0} (n : Refusal) (q : Reading) → faulty n ≡ good q �
 no-good n q e = absurd (never cc)
 
 -- a line is good where each of its checks passes
-judged-good : (a b c d : Bool) (r q : Reading) → judged a b c d r ≡ good q → (a ≡ true) × (b ≡ true) × (c ≡ true) × (d ≡ true) × (q ≡ r)
+pub judged-good : (a b c d : Bool) (r q : Reading) → judged a b c d r ≡ good q → (a ≡ true) × (b ≡ true) × (c ≡ true) × (d ≡ true) × (q ≡ r)
 judged-good true true true true r q e = (refl, refl, refl, refl, cc)
 judged-good true true true false r q e = no-good Repeated q e
 judged-good true true false d r q e = no-good OutOfRange q e

@@ -11,6 +11,7 @@ pub mod Checking
 pub mod Before
 pub mod Stepping
 pub mod Tupling
+pub mod Solids
 pub mod Passages
 pub mod Accepted
 pub mod Keyed

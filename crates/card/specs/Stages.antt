@@ -63,3 +63,8 @@ SlotsOnly (rule-due k) = Unit {0}
 SlotsOnly (rule-scope-due k rule) = Unit {0}
 SlotsOnly end-due = Unit {0}
 SlotsOnly nothing-due = Unit {0}
+
+-- what has been read is within the limits that the checks rely on
+pub record Solid (r : Reading) : Type 0 where
+  pub fit : Fit (stage-of r)
+  pub slots : SlotsOnly (r .due)
