@@ -12,6 +12,7 @@ pub mod Before
 pub mod Stepping
 pub mod Tupling
 pub mod Solids
+pub mod Judging
 pub mod Passages
 pub mod Accepted
 pub mod Keyed

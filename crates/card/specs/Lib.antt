@@ -7,5 +7,6 @@ pub mod Kinds
 pub mod Words
 pub mod Stages
 pub mod Steps
+pub mod Judgement
 pub mod Sheets
 pub mod Example
