@@ -1,10 +1,8 @@
 // A line where it is due.
-ghost use Prim.Native.Nat.{_^_, _<_};
 ghost use Rattle.card.specs.Kinds.{bytes-of, key-of};
 ghost use Rattle.card.specs.Stages.{Fit, SlotsOnly, stage-of};
 ghost use Rattle.card.specs.Steps.{answered, line-answered};
 ghost use Rattle.card.specs.Verdict.{Reading};
-ghost use lib.ListN.{length};
 ghost use mathlib.Core.Path.{_≡_};
 use crate::entry::Step;
 use crate::line::Line;
@@ -15,7 +13,7 @@ use network::refusal::Refusal;
 impl Stage {
     // The step that the line makes, if it is the one that is due.
     pub fn step(self, line: Line) -> Result<Step, Refusal>
-        requires { ⌜ Fit self ⌝ ∗ ⌜ length (bytes-of line) < 2 ^ 63 ⌝ }
+        requires { ⌜ Fit self ⌝ }
         ensures { λ r. ⌜ ((q : Reading) → SlotsOnly (q .due) → self ≡ stage-of q → r ≡ answered q (q .due) (key-of (line .entry)) (bytes-of (line .entry))) ⌝ }
     {
         match (self.next, line) {
@@ -46,7 +44,7 @@ impl Stage {
 
     // The step that the bytes before a newline make.
     pub fn step_over(self, bytes: &[u8]) -> Result<Step, Refusal>
-        requires { ⌜ Fit self ⌝ ∗ ⌜ length (now bytes) < 2 ^ 63 ⌝ }
+        requires { ⌜ Fit self ⌝ }
         ensures { λ r. ⌜ ((q : Reading) → SlotsOnly (q .due) → self ≡ stage-of q → r ≡ line-answered q (now (bytes .entry))) ⌝ }
     {
         let Some(line) = Line::read(bytes) else {

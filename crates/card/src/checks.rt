@@ -4,7 +4,6 @@ ghost use Rattle.card.specs.Checks.{number-checked, scope-checked, tuple-check
 ghost use Rattle.network.specs.Tree.{precedes};
 ghost use Rattle.std.specs.shelf.Lawful.{all-pass};
 ghost use lib.Dec.{ltb};
-ghost use lib.ListN.{length};
 ghost use mathlib.Core.Path.{_≡_};
 use crate::list::NumberList;
 use crate::number::number;
@@ -41,7 +40,7 @@ fn all_below(numbers: &[u8], limit: usize) -> bool
 }
 
 pub fn scope_in(value: &[u8], blocks: usize) -> Result<NumberList, Refusal>
-    requires { ⌜ length (now value) < 2 ^ 63 ⌝ ∗ ⌜ blocks ≤ 32 ⌝ }
+    requires { ⌜ blocks ≤ 32 ⌝ }
     ensures { λ r. ⌜ r ≡ scope-checked blocks (now (value .entry)) ⌝ }
 {
     let Some(list) = NumberList::read(value) else {
@@ -77,7 +76,7 @@ fn comes_before(a: &[u8], b: &[u8]) -> bool
 
 // A slot for each block of a scope, in a tuple above the last one.
 pub fn tuple_in(value: &[u8], arity: usize, last: &[u8]) -> Result<NumberList, Refusal>
-    requires { ⌜ length (now value) < 2 ^ 63 ⌝ ∗ ⌜ arity ≤ 6 ⌝ }
+    requires { ⌜ arity ≤ 6 ⌝ }
     ensures { λ r. ⌜ r ≡ tuple-checked arity (now (last .entry)) (now (value .entry)) ⌝ }
 {
     let Some(list) = NumberList::read(value) else {

@@ -2,7 +2,6 @@
 ghost use Prim.Native.Nat.{_+_, _^_, _<_, ℕ};
 ghost use Rattle.card.specs.Lists.{Holds, Listed};
 ghost use Rattle.card.specs.Parts.{capped};
-ghost use lib.ListN.{length};
 ghost use mathlib.Core.List.{List, [], _++_, _∷_};
 ghost use mathlib.Core.Path.{_≡_};
 use crate::number::number;
@@ -41,7 +40,6 @@ impl NumberList {
 
     // The numbers between the commas, if each piece is one.
     pub fn read(value: &[u8]) -> Option<NumberList>
-        requires { ⌜ length (now value) < 2 ^ 63 ⌝ }
         ensures { λ r. ⌜ Listed (now (value .entry)) r ⌝ }
     {
         let mut list = NumberList::empty();

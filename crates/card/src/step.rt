@@ -1,5 +1,5 @@
 // One line more: the stage after it, and what it adds to the network.
-ghost use Prim.Native.Nat.{_^_, _<_, _≤_, ℕ};
+ghost use Prim.Native.Nat.{_≤_, ℕ};
 ghost use Rattle.card.specs.Lists.{list-of};
 ghost use Rattle.card.specs.Stages.{stage-of};
 ghost use Rattle.card.specs.Steps.{answered, step-of-stage};
@@ -84,7 +84,7 @@ impl Stage {
     }
 
     pub fn after_scope(self, more: usize, kind: Kind, value: &[u8]) -> Result<Step, Refusal>
-        requires { ⌜ length (now value) < 2 ^ 63 ⌝ ∗ ⌜ self .blocks ≤ 32 ⌝ }
+        requires { ⌜ self .blocks ≤ 32 ⌝ }
         ensures { λ r. ⌜ ((q : Reading) → self ≡ stage-of q → r ≡ answered q (scope-due more kind) (codes "scope") (now (value .entry))) ⌝ }
     {
         let scope = scope_in(value, self.blocks)?;
@@ -118,7 +118,7 @@ impl Stage {
         last: NumberList,
         value: &[u8],
     ) -> Result<Step, Refusal>
-        requires { ⌜ length (now value) < 2 ^ 63 ⌝ ∗ ⌜ arity ≤ 6 ⌝ ∗ ⌜ last .count ≤ 6 ⌝ }
+        requires { ⌜ arity ≤ 6 ⌝ ∗ ⌜ last .count ≤ 6 ⌝ }
         ensures { λ r. ⌜ ((q : Reading) (kind : Kind) (scope : List ℕ) (ts : List (List ℕ)) → self ≡ stage-of q → arity ≡ length scope → last ≡ list-of (last-tuple ts) →
             all-pass (λ x. ltb x 32) (last-tuple ts) ≡ true → r ≡ answered q (row-due more kind scope left ts) (codes "row") (now (value .entry))) ⌝ }
     {
@@ -142,7 +142,7 @@ impl Stage {
     }
 
     pub fn after_rule_scope(self, more: usize, rule: Rule, value: &[u8]) -> Result<Step, Refusal>
-        requires { ⌜ length (now value) < 2 ^ 63 ⌝ ∗ ⌜ self .blocks ≤ 32 ⌝ }
+        requires { ⌜ self .blocks ≤ 32 ⌝ }
         ensures { λ r. ⌜ ((q : Reading) → self ≡ stage-of q → r ≡ answered q (rule-scope-due more rule) (codes "scope") (now (value .entry))) ⌝ }
     {
         let scope = scope_in(value, self.blocks)?;
