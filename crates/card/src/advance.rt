@@ -12,7 +12,7 @@ use network::refusal::Refusal;
 
 impl Stage {
     // The step that the line makes, if it is the one that is due.
-    pub fn step(self, line: Line) -> Result<Step, Refusal>
+    pub(crate) fn step(self, line: Line) -> Result<Step, Refusal>
         requires { ⌜ Fit self ⌝ }
         ensures { λ r. ⌜ ((q : Reading) → SlotsOnly (q .due) → self ≡ stage-of q → r ≡ answered q (q .due) (key-of (line .entry)) (bytes-of (line .entry))) ⌝ }
     {
@@ -43,7 +43,7 @@ impl Stage {
     }
 
     // The step that the bytes before a newline make.
-    pub fn step_over(self, bytes: &[u8]) -> Result<Step, Refusal>
+    pub(crate) fn step_over(self, bytes: &[u8]) -> Result<Step, Refusal>
         requires { ⌜ Fit self ⌝ }
         ensures { λ r. ⌜ ((q : Reading) → SlotsOnly (q .due) → self ≡ stage-of q → r ≡ line-answered q (now (bytes .entry))) ⌝ }
     {

@@ -15,7 +15,7 @@ const MIN_ARITY: usize = 2;
 
 const MAX_ARITY: usize = 6;
 
-pub fn number_in(value: &[u8], least: usize, most: usize) -> Result<usize, Refusal>
+pub(crate) fn number_in(value: &[u8], least: usize, most: usize) -> Result<usize, Refusal>
     requires { ⌜ most < 2 ^ 32 ⌝ }
     ensures { λ r. ⌜ r ≡ number-checked least most (now (value .entry)) ⌝ }
 {
@@ -39,7 +39,7 @@ fn all_below(numbers: &[u8], limit: usize) -> bool
     true
 }
 
-pub fn scope_in(value: &[u8], blocks: usize) -> Result<NumberList, Refusal>
+pub(crate) fn scope_in(value: &[u8], blocks: usize) -> Result<NumberList, Refusal>
     requires { ⌜ blocks ≤ 32 ⌝ }
     ensures { λ r. ⌜ r ≡ scope-checked blocks (now (value .entry)) ⌝ }
 {
@@ -75,7 +75,7 @@ fn comes_before(a: &[u8], b: &[u8]) -> bool
 }
 
 // A slot for each block of a scope, in a tuple above the last one.
-pub fn tuple_in(value: &[u8], arity: usize, last: &[u8]) -> Result<NumberList, Refusal>
+pub(crate) fn tuple_in(value: &[u8], arity: usize, last: &[u8]) -> Result<NumberList, Refusal>
     requires { ⌜ arity ≤ 6 ⌝ }
     ensures { λ r. ⌜ r ≡ tuple-checked arity (now (last .entry)) (now (value .entry)) ⌝ }
 {

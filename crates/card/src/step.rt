@@ -83,7 +83,7 @@ impl Stage {
         Ok(self.then(Expected::Scope(more, kind), Entry::Nothing))
     }
 
-    pub fn after_scope(self, more: usize, kind: Kind, value: &[u8]) -> Result<Step, Refusal>
+    pub(crate) fn after_scope(self, more: usize, kind: Kind, value: &[u8]) -> Result<Step, Refusal>
         requires { ⌜ self .blocks ≤ 32 ⌝ }
         ensures { λ r. ⌜ ((q : Reading) → self ≡ stage-of q → r ≡ answered q (scope-due more kind) (codes "scope") (now (value .entry))) ⌝ }
     {
@@ -91,7 +91,7 @@ impl Stage {
         Ok(self.then(Expected::Tuples(more, kind, scope), Entry::Nothing))
     }
 
-    pub fn after_tuples(
+    pub(crate) fn after_tuples(
         self,
         more: usize,
         kind: Kind,
@@ -110,7 +110,7 @@ impl Stage {
         Ok(stage.then(next, Entry::Table(kind, scope, tuples)))
     }
 
-    pub fn after_tuple(
+    pub(crate) fn after_tuple(
         self,
         more: usize,
         arity: usize,
@@ -141,7 +141,12 @@ impl Stage {
         Ok(self.then(Expected::RuleScope(more, rule), Entry::Nothing))
     }
 
-    pub fn after_rule_scope(self, more: usize, rule: Rule, value: &[u8]) -> Result<Step, Refusal>
+    pub(crate) fn after_rule_scope(
+        self,
+        more: usize,
+        rule: Rule,
+        value: &[u8],
+    ) -> Result<Step, Refusal>
         requires { ⌜ self .blocks ≤ 32 ⌝ }
         ensures { λ r. ⌜ ((q : Reading) → self ≡ stage-of q → r ≡ answered q (rule-scope-due more rule) (codes "scope") (now (value .entry))) ⌝ }
     {
