@@ -48,7 +48,7 @@ impl<'a> Line<'a> {
     }
 
     // The line that the bytes before a newline make.
-    pub fn read(bytes: &'a [u8]) -> Option<Line<'a>>
+    pub(crate) fn read(bytes: &'a [u8]) -> Option<Line<'a>>
         ensures { λ r. ⌜ ReadAs (now (bytes .entry)) r ⌝ }
     {
         let Some(equals) = place_of(bytes, b'=') else {

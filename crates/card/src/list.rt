@@ -18,7 +18,7 @@ pub struct NumberList {
 }
 
 impl NumberList {
-    pub fn empty() -> Self
+    pub(crate) fn empty() -> Self
         ensures { λ r. ⌜ Holds r [] ⌝ }
     {
         NumberList {
@@ -39,7 +39,7 @@ impl NumberList {
     }
 
     // The numbers between the commas, if each piece is one.
-    pub fn read(value: &[u8]) -> Option<NumberList>
+    pub(crate) fn read(value: &[u8]) -> Option<NumberList>
         ensures { λ r. ⌜ Listed (now (value .entry)) r ⌝ }
     {
         let mut list = NumberList::empty();

@@ -6,7 +6,7 @@ ghost use Prim.Native.Nat.{_<_};
 const CAP: usize = 1 << 32;
 
 // The number that the bytes spell, cut at 2 ^ 32 so that no number of digits is too long.
-pub fn number(bytes: &[u8]) -> Option<usize>
+pub(crate) fn number(bytes: &[u8]) -> Option<usize>
     ensures { λ r. ⌜ Numbered (now (bytes .entry)) r ⌝ }
 {
     match bytes {

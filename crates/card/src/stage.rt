@@ -36,7 +36,7 @@ pub struct Stage {
 }
 
 impl Expected {
-    pub fn open_or_sheets(more: usize) -> Expected
+    pub(crate) fn open_or_sheets(more: usize) -> Expected
         ensures { λ r. ⌜ r ≡ expected-of (open-or-sheets more) ⌝ }
     {
         if more == 0 {
@@ -46,7 +46,7 @@ impl Expected {
         }
     }
 
-    pub fn kind_or_rules(more: usize) -> Expected
+    pub(crate) fn kind_or_rules(more: usize) -> Expected
         ensures { λ r. ⌜ r ≡ expected-of (kind-or-rules more) ⌝ }
     {
         if more == 0 {
@@ -56,7 +56,7 @@ impl Expected {
         }
     }
 
-    pub fn rule_or_end(more: usize) -> Expected
+    pub(crate) fn rule_or_end(more: usize) -> Expected
         ensures { λ r. ⌜ r ≡ expected-of (rule-or-end more) ⌝ }
     {
         if more == 0 {
@@ -67,7 +67,12 @@ impl Expected {
     }
 
     // The next tuple of a table, or what comes after it.
-    pub fn tuple_or_next(more: usize, arity: usize, left: usize, last: NumberList) -> Expected
+    pub(crate) fn tuple_or_next(
+        more: usize,
+        arity: usize,
+        left: usize,
+        last: NumberList,
+    ) -> Expected
         ensures { λ r. ⌜ ((kind : Kind) (scope : List ℕ) (ts : List (List ℕ)) (q : Reading) → arity ≡ length scope → last ≡ list-of (last-tuple ts) →
             r ≡ stage-of (row-or-next more kind scope left ts q) .next) ⌝ }
     {

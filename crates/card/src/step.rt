@@ -47,7 +47,7 @@ impl Stage {
         }
     }
 
-    pub fn after_blocks(value: &[u8]) -> Result<Step, Refusal>
+    pub(crate) fn after_blocks(value: &[u8]) -> Result<Step, Refusal>
         ensures { λ r. ⌜ ((q : Reading) → r ≡ answered q blocks-due (codes "blocks") (now (value .entry))) ⌝ }
     {
         let blocks = number_in(value, 1, MAX_BLOCKS)?;
@@ -62,21 +62,21 @@ impl Stage {
         })
     }
 
-    pub fn after_open(self, more: usize, value: &[u8]) -> Result<Step, Refusal>
+    pub(crate) fn after_open(self, more: usize, value: &[u8]) -> Result<Step, Refusal>
         ensures { λ r. ⌜ ((q : Reading) → self ≡ stage-of q → r ≡ answered q (open-due more) (codes "open") (now (value .entry))) ⌝ }
     {
         let mask = number_in(value, 0, MAX_MASK)?;
         Ok(self.then(Expected::open_or_sheets(more), Entry::Mask(mask as u32)))
     }
 
-    pub fn after_sheets(self, value: &[u8]) -> Result<Step, Refusal>
+    pub(crate) fn after_sheets(self, value: &[u8]) -> Result<Step, Refusal>
         ensures { λ r. ⌜ ((q : Reading) → self ≡ stage-of q → r ≡ answered q sheets-due (codes "sheets") (now (value .entry))) ⌝ }
     {
         let tables = number_in(value, 0, MAX_TABLES)?;
         Ok(self.then(Expected::kind_or_rules(tables), Entry::Nothing))
     }
 
-    pub fn after_kind(self, more: usize, value: &[u8]) -> Result<Step, Refusal>
+    pub(crate) fn after_kind(self, more: usize, value: &[u8]) -> Result<Step, Refusal>
         ensures { λ r. ⌜ ((q : Reading) → self ≡ stage-of q → r ≡ answered q (kind-due more) (codes "kind") (now (value .entry))) ⌝ }
     {
         let kind = kind_in(value)?;
@@ -127,14 +127,14 @@ impl Stage {
         Ok(self.then(next, Entry::Tuple(tuple)))
     }
 
-    pub fn after_rules(self, value: &[u8]) -> Result<Step, Refusal>
+    pub(crate) fn after_rules(self, value: &[u8]) -> Result<Step, Refusal>
         ensures { λ r. ⌜ ((q : Reading) → self ≡ stage-of q → r ≡ answered q rules-due (codes "rules") (now (value .entry))) ⌝ }
     {
         let rules = number_in(value, 0, MAX_RULES)?;
         Ok(self.then(Expected::rule_or_end(rules), Entry::Nothing))
     }
 
-    pub fn after_rule(self, more: usize, value: &[u8]) -> Result<Step, Refusal>
+    pub(crate) fn after_rule(self, more: usize, value: &[u8]) -> Result<Step, Refusal>
         ensures { λ r. ⌜ ((q : Reading) → self ≡ stage-of q → r ≡ answered q (rule-due more) (codes "rule") (now (value .entry))) ⌝ }
     {
         let rule = rule_in(value)?;
@@ -154,7 +154,7 @@ impl Stage {
         Ok(self.then(Expected::rule_or_end(more), Entry::Rule(rule, scope)))
     }
 
-    pub fn after_end(self, value: &[u8]) -> Result<Step, Refusal>
+    pub(crate) fn after_end(self, value: &[u8]) -> Result<Step, Refusal>
         ensures { λ r. ⌜ ((q : Reading) → self ≡ stage-of q → r ≡ answered q end-due (codes "end") (now (value .entry))) ⌝ }
     {
         net_in(value)?;

@@ -5,7 +5,7 @@ use banks::rule::Rule;
 use banks::table::Kind;
 use network::refusal::Refusal;
 
-pub fn kind_in(value: &[u8]) -> Result<Kind, Refusal>
+pub(crate) fn kind_in(value: &[u8]) -> Result<Kind, Refusal>
     ensures { λ r. ⌜ r ≡ kind-read (now (value .entry)) ⌝ }
 {
     if value == b"allow" {
@@ -17,7 +17,7 @@ pub fn kind_in(value: &[u8]) -> Result<Kind, Refusal>
     }
 }
 
-pub fn rule_in(value: &[u8]) -> Result<Rule, Refusal>
+pub(crate) fn rule_in(value: &[u8]) -> Result<Rule, Refusal>
     ensures { λ r. ⌜ r ≡ rule-read (now (value .entry)) ⌝ }
 {
     if value == b"notequal" {
@@ -29,7 +29,7 @@ pub fn rule_in(value: &[u8]) -> Result<Rule, Refusal>
     }
 }
 
-pub fn net_in(value: &[u8]) -> Result<(), Refusal>
+pub(crate) fn net_in(value: &[u8]) -> Result<(), Refusal>
     ensures { λ r. ⌜ r ≡ net-read (now (value .entry)) ⌝ }
 {
     if value == b"net" {
