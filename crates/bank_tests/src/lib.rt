@@ -1,4 +1,6 @@
 // Examples of what the banks and the record checks answer.
+#![tactic(auto)]
+
 #[cfg(test)]
 mod checks;
 #[cfg(test)]

@@ -1,4 +1,6 @@
 // Cards: a network as text, its judgement and its reading.
+#![tactic(auto)]
+
 mod advance;
 mod checks;
 mod counting;

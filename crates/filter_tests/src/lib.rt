@@ -1,4 +1,6 @@
 // Examples of what the six filters leave.
+#![tactic(auto)]
+
 #[cfg(test)]
 mod rows;
 #[cfg(test)]

@@ -1,4 +1,6 @@
 // Six forward-checking filters.
+#![tactic(auto)]
+
 mod effect;
 mod narrowing;
 pub mod nfc;

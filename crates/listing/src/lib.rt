@@ -1,4 +1,6 @@
 // Sessions: a network's plans, listed call by call.
+#![tactic(auto)]
+
 mod fits;
 mod listing;
 pub mod outcome;

@@ -1,4 +1,6 @@
 // Examples of what sessions answer.
+#![tactic(auto)]
+
 #[cfg(test)]
 mod listings;
 #[cfg(test)]

@@ -1,4 +1,6 @@
 // Shows the example network: what its sheets support, what each filter leaves of a row, and its plans.
+#![tactic(auto)]
+
 mod filtering;
 mod listing_of;
 mod sheets;
