@@ -17,12 +17,17 @@ bounds-self-self c =
     let r = c.args.self.now in
     omega (arith, next_there r c.args.slot (offered r c.args.slot c.if-not-offers.ensures).1, r.few)
 
-pub invariant-of-self : goal.invariant-of-self
-invariant-of-self c =
+pub invariant_of-self : goal.invariant_of-self
+invariant_of-self c =
     let r = c.args.self.now in
     let o = offered r c.args.slot c.if-not-offers.ensures in
     let l = next_there r c.args.slot o.1 in
-    (r.few, (omega (arith, l), (r.sized, (∣ subst LawfulRow (sym (decided_code r c.args.slot o.0)) (decided_law r c.args.slot o.0 o.1) ∣₁, tt))))
+    record {
+      few = r.few;
+      within = omega (arith, l);
+      sized = r.sized;
+      lawful = ∣ subst LawfulRow (sym (decided_code r c.args.slot o.0)) (decided_law r c.args.slot o.0 o.1) ∣₁;
+    }
 
 pub returns : goal.returns
 returns c =

@@ -8,17 +8,22 @@ use Rattle.network.proofs.row.Row.keep.Goals as goal
 pub returns-then-block-self : goal.returns-then-block-self
 returns-then-block-self c = kept_past c.args.self.now c.args.block c.args.mask c.if-block-self.true
 
-pub way-repeat·self : goal.way-repeat·self
-way-repeat·self c =
+pub way_repeat-self : goal.way_repeat-self
+way_repeat-self c =
     let r = c.args.self.now in
     let l = keep_lawful (lawful_code r) c.args.block c.args.mask in
     (r.few, (r.within, (r.sized, (∣ subst LawfulRow (sym (kept_none r c.args.block c.args.mask c.if-block-self.false c.if-left-eq0.true)) l ∣₁, tt))))
 
-pub invariant-of-self : goal.invariant-of-self
-invariant-of-self c =
+pub invariant_of-self : goal.invariant_of-self
+invariant_of-self c =
     let r = c.args.self.now in
     let l = keep_lawful (lawful_code r) c.args.block c.args.mask in
-    (r.few, (r.within, (r.sized, (∣ subst LawfulRow (sym (kept_some r c.args.block c.args.mask c.if-block-self.false c.if-left-eq0.false)) l ∣₁, tt))))
+    record {
+      few = r.few;
+      within = r.within;
+      sized = r.sized;
+      lawful = ∣ subst LawfulRow (sym (kept_some r c.args.block c.args.mask c.if-block-self.false c.if-left-eq0.false)) l ∣₁;
+    }
 
 pub returns-then-left-eq0 : goal.returns-then-left-eq0
 returns-then-left-eq0 c = kept_none c.args.self.now c.args.block c.args.mask c.if-block-self.false c.if-left-eq0.true
