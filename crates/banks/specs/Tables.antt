@@ -1,8 +1,7 @@
 -- Tables: the check of their records, and the sheets that they stand for.
 use Rattle.std.specs.Prelude.{◌≡◌, ℕ, zero, suc, ◌+◌, ◌*◌, ◌<◌, Bool, true, false, cond, not, ◌&&◌, ◌||◌, ltb, List, [], ◌∷◌, map, length, take, drop, Ok, ◌==◌, nat_eq, nat_lt, slice_index_or}
 use Rattle.std.specs.List.{list_all}
-use Rattle.std.specs.Map.Invariant.{is-distinct}
-use Rattle.network.specs.Sheets.{Sheet, has, same_list, some_pass}
+use Rattle.network.specs.Sheets.{has, is_distinct, same_list, Sheet, some_pass}
 use Rattle.network.specs.Tree.{precedes}
 use Rattle.network.specs.declared.refusal.Refusal.TheVariants.{LimitExceeded, OutOfRange, PlaceTooShort, Repeated}
 use Rattle.banks.specs.declared.table.Kind.{Kind}
@@ -38,7 +37,7 @@ table_verdict cells r =
     refused_if (ill_sized r.arity || nat_lt 4096 r.tuples) LimitExceeded
     (refused_if (nat_lt (length cells) (r.first + r.tuples * r.arity)) PlaceTooShort
     (refused_if (out_of_range (table_scope r) || out_of_range (table_cells cells r)) OutOfRange
-    (refused_if (not (is-distinct nat_eq (table_scope r)) || not (climbs (tuples_of cells r))) Repeated (Ok tt))))
+    (refused_if (not (is_distinct nat_eq (table_scope r)) || not (climbs (tuples_of cells r))) Repeated (Ok tt))))
 
 abbrev pub tables_verdict : List ℕ → List TableRecord → Verdict
 tables_verdict cells rs = on_records (table_verdict cells) rs

@@ -2,8 +2,8 @@
 use Rattle.std.specs.Prelude.{◌≡◌, ℕ, ◌+◌, ◌-◌, ◌*◌, ◌<◌, ◌≤◌, Bool, true, false, not, ◌||◌, ltb, List, [], map, length, take, drop, Ok, Err, nat_eq, nat_lt, slice_index_or}
 use Rattle.std.proofs.Common.{arith, ◌∙◌, ap, sym}
 use Rattle.std.specs.List.{list_all}
-use Rattle.std.specs.Map.Invariant.{is-distinct}
 use Rattle.std.proofs.lemmas.Bool.{le-ltb, ltb-false, not-false, or_from, or_parts}
+use Rattle.network.specs.Sheets.{is_distinct}
 use Rattle.network.specs.Laws.{LawfulBank, LawfulSheet}
 use Rattle.network.specs.declared.refusal.Refusal.TheVariants.{LimitExceeded, OutOfRange, PlaceTooShort, Repeated}
 use Rattle.network.proofs.Members.{in_at}
@@ -33,11 +33,11 @@ module _ (cells : List ℕ) (r : TableRecord) (sc tb : List ℕ) (scope-is : sc 
   pub table_out : (out_of_range sc || out_of_range tb) ≡ true → Err OutOfRange ≡ table_verdict cells r
   table_out e = sym (simp (few, room, scope, sym table_is, e))
 
-  pub table_twice : (out_of_range sc || out_of_range tb) ≡ false → (not (is-distinct nat_eq sc) || not (climbs (tuples_in r.arity r.tuples tb))) ≡ true →
+  pub table_twice : (out_of_range sc || out_of_range tb) ≡ false → (not (is_distinct nat_eq sc) || not (climbs (tuples_in r.arity r.tuples tb))) ≡ true →
       Err Repeated ≡ table_verdict cells r
   table_twice e d = sym (simp (few, room, scope, sym table_is, e, d))
 
-  pub table_fine : (out_of_range sc || out_of_range tb) ≡ false → (not (is-distinct nat_eq sc) || not (climbs (tuples_in r.arity r.tuples tb))) ≡ false →
+  pub table_fine : (out_of_range sc || out_of_range tb) ≡ false → (not (is_distinct nat_eq sc) || not (climbs (tuples_in r.arity r.tuples tb))) ≡ false →
       Ok tt ≡ table_verdict cells r
   table_fine e d = sym (simp (few, room, scope, sym table_is, e, d))
 
@@ -52,7 +52,7 @@ pub record Fine (cells : List ℕ) (r : TableRecord) : Type 0 where
   pub short : r.tuples ≤ 4096
   pub there : r.first + r.tuples * r.arity ≤ length cells
   pub blocks : out_of_range (table_scope r) ≡ false
-  pub apart : is-distinct nat_eq (table_scope r) ≡ true
+  pub apart : is_distinct nat_eq (table_scope r) ≡ true
   pub slots : out_of_range (table_cells cells r) ≡ false
   pub ascends : climbs (tuples_of cells r) ≡ true
 
@@ -61,7 +61,7 @@ table_accepted cells r h =
     let t1 = ill_sized r.arity || ltb 4096 r.tuples in
     let t2 = ltb (length cells) (r.first + r.tuples * r.arity) in
     let t3 = out_of_range (table_scope r) || out_of_range (table_cells cells r) in
-    let t4 = not (is-distinct nat_eq (table_scope r)) || not (climbs (tuples_of cells r)) in
+    let t4 = not (is_distinct nat_eq (table_scope r)) || not (climbs (tuples_of cells r)) in
     let v4 : Verdict = refused_if t4 Repeated (Ok tt) in
     let v3 : Verdict = refused_if t3 OutOfRange v4 in
     let v2 : Verdict = refused_if t2 PlaceTooShort v3 in
@@ -71,14 +71,14 @@ table_accepted cells r h =
     let e = passed t4 Repeated (Ok tt) d.1 in
     let a' = or_parts (ill_sized r.arity) (nat_lt 4096 r.tuples) a.0 in
     let d' = or_parts (out_of_range (table_scope r)) (out_of_range (table_cells cells r)) d.0 in
-    let e' = or_parts (not (is-distinct nat_eq (table_scope r))) (not (climbs (tuples_of cells r))) e.0 in
+    let e' = or_parts (not (is_distinct nat_eq (table_scope r))) (not (climbs (tuples_of cells r))) e.0 in
     record {
       size = a'.0;
       narrow = (sizes r.arity a'.0).1;
       short = ltb-false 4096 r.tuples a'.1;
       there = ltb-false (length cells) (r.first + r.tuples * r.arity) b.0;
       blocks = d'.0;
-      apart = not-false (is-distinct nat_eq (table_scope r)) e'.0;
+      apart = not-false (is_distinct nat_eq (table_scope r)) e'.0;
       slots = d'.1;
       ascends = not-false (climbs (tuples_of cells r)) e'.1;
     }

@@ -1,9 +1,8 @@
 // The tests of a sheet's scope that tables and rules share.
 ghost use Rattle.std.specs.Prelude.{◌≡◌, ◌≤◌, take, nat_eq, nat_lt, slice_index_or};
 ghost use Rattle.banks.specs.Verdicts.{first_blocks};
-ghost use Rattle.network.specs.Sheets.{some_pass};
+ghost use Rattle.network.specs.Sheets.{is_distinct, some_pass};
 ghost use Rattle.std.specs.List.{list_all};
-ghost use Rattle.std.specs.Map.Invariant.{is-distinct};
 
 use network::mask::SLOTS;
 
@@ -42,7 +41,7 @@ fn holds(numbers: &[u8], x: u8) -> bool
 
 // Whether no number stands twice.
 pub fn all_distinct(numbers: &[u8]) -> bool
-    ensures { result ≡ is-distinct nat_eq numbers.now }
+    ensures { result ≡ is_distinct nat_eq numbers.now }
 {
     for i in 0..numbers.len() {
         if holds(&numbers[i + 1..], numbers[i]) {

@@ -2,9 +2,9 @@
 use Rattle.std.proofs.Common.{◌≡◌, ℕ, zero, suc, ◌+◌, ◌^◌, ◌≤◌, Bool, true, false, cond, ◌&&◌, eqb, ltb, leb, List, [], ◌∷◌, ◌++◌, map, length, take, codes, sym, refl, ap, ◌∙◌, subst, ap₂, inl, inr, append_assoc, append-nil, add_assoc, zero-add, arith, length-append}
 use lib.ListN.{length-map}
 use Rattle.std.specs.List.{list_all, flat_map}
-use Rattle.std.specs.Map.Invariant.{is-distinct}
 use Rattle.std.proofs.lemmas.List.{flat_map_more, length_push, map_push}
 use Rattle.std.proofs.lemmas.Bool.{and_parts, eqb-true, leb-true}
+use Rattle.network.specs.Sheets.{is_distinct}
 use Rattle.network.specs.declared.refusal.Refusal.TheVariants.{Malformed}
 use Rattle.banks.specs.declared.table.Kind.{Kind}
 use Rattle.banks.specs.declared.table.TableRecord.{TableRecord}
@@ -127,7 +127,7 @@ module _ (q p : Reading) (key bs : List ℕ) where
 
   scope_adds : (d : Due) (r : Reading) → scope_line (same_bytes key (codes "scope")) bs q r ≡ good p → (length vs ≤ 6 → Adds q r d bs) → Adds q p d bs
   scope_adds d r h adds =
-      passed (same_bytes key (codes "scope") && list_all is_number ps) (leb 2 (length ps) && leb (length ps) 6) (list_all (λ y. ltb (value_of y) q.blocks) ps) (is-distinct eqb vs) q r p d bs h
+      passed (same_bytes key (codes "scope") && list_all is_number ps) (leb 2 (length ps) && leb (length ps) 6) (list_all (λ y. ltb (value_of y) q.blocks) ps) (is_distinct eqb vs) q r p d bs h
       (λ _ limit _.
       let six : length ps ≤ 6 = leb-true (length ps) 6 (and_parts (leb 2 (length ps)) (leb (length ps) 6) limit).1 in
       adds (omega (arith, length-map ps value_of)))

@@ -2,9 +2,9 @@
 use Rattle.std.proofs.Common.{◌≡◌, ℕ, ◌<◌, ◌≤◌, min, Bool, true, false, ◌&&◌, eqb, ltb, leb, ◌⊎◌, List, [], ◌∷◌, map, length, take, Ok, Err, sym, refl, ap, ◌∙◌, ap₂, inl, inr, arith}
 use lib.ListN.{length-map}
 use Rattle.std.specs.List.{list_all}
-use Rattle.std.specs.Map.Invariant.{is-distinct}
 use Rattle.std.proofs.lemmas.List.{get_or-map, get_or-take, length-take-le, same_lists}
 use Rattle.std.proofs.lemmas.Bool.{and_from, and_left, and_parts, and_right, cases_lt, eq-eqb, le-leb, lt-leb, lt-ltb, le-ltb, ltb-true, ne_eqb}
+use Rattle.network.specs.Sheets.{is_distinct}
 use Rattle.network.specs.Tree.{precedes}
 use Rattle.network.specs.declared.refusal.Refusal.TheVariants.{LimitExceeded, Malformed, OutOfRange, Repeated}
 use Rattle.card.specs.declared.list.NumberList.{NumberList}
@@ -80,13 +80,13 @@ module _ (bs : List ℕ) (l : NumberList) (h : Holds l (map value_of (pieces bs)
         ranged : list_all (λ p. ltb (value_of p) n) (pieces bs) ≡ true
         ranged = sym (held_below high n small) ∙ sym inside
 
-        apart : {b : Bool} → b ≡ is-distinct eqb (take l.count l.numbers) → is-distinct eqb (map value_of (pieces bs)) ≡ b
-        apart e = sym (ap (is-distinct eqb) (held_values high n small ranged)) ∙ sym e
+        apart : {b : Bool} → b ≡ is_distinct eqb (take l.count l.numbers) → is_distinct eqb (map value_of (pieces bs)) ≡ b
+        apart e = sym (ap (is_distinct eqb) (held_values high n small ranged)) ∙ sym e
 
-        pub scope_twice : false ≡ is-distinct eqb (take l.count l.numbers) → Err Repeated ≡ scope_checked n bs
+        pub scope_twice : false ≡ is_distinct eqb (take l.count l.numbers) → Err Repeated ≡ scope_checked n bs
         scope_twice e = sym (rw (form, sized, ranged, apart e))
 
-        pub scope_good : true ≡ is-distinct eqb (take l.count l.numbers) → Ok l ≡ scope_checked n bs
+        pub scope_good : true ≡ is_distinct eqb (take l.count l.numbers) → Ok l ≡ scope_checked n bs
         scope_good e = ap Ok (holds_is l (map value_of (pieces bs)) h) ∙ sym (rw (form, sized, ranged, apart e))
 
   -- the checks of a tuple

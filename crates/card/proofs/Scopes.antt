@@ -2,10 +2,10 @@
 use Rattle.std.proofs.Common.{◌≡◌, ℕ, zero, suc, ◌<◌, ◌≤◌, Bool, true, ◌&&◌, eqb, ltb, leb, List, [], ◌∷◌, ◌++◌, length, codes, Decides, sym, refl, ◌∙◌, arith}
 use lib.ListN.{length-map}
 use Rattle.std.specs.List.{list_all, AllByRecursion as All}
-use Rattle.std.specs.Map.Invariant.{is-distinct}
 use Rattle.std.proofs.ByRecursion.{All-weaker, Decides-by_and}
 use Rattle.std.proofs.lemmas.Bool.{and_parts, and_from, leb-true, le-leb, eqb-true, eq-eqb}
 use Rattle.std.proofs.lemmas.Bool.Decides.{Decides-at}
+use Rattle.network.specs.Sheets.{is_distinct}
 use Rattle.banks.specs.declared.table.Kind.{Kind}
 use Rattle.card.specs.Spelling.{listed, ScopeWithin}
 use Rattle.card.specs.Verdict.{Reading, nothing_due, row_due, at, judge, scope_line, row_or_next, above_last, same_bytes, is_number, value_of, pieces}
@@ -24,7 +24,7 @@ pub scoped : {next : List ℕ → Reading} (r : Reading) → (r.due ≡ nothing_
     Passage r (ScopeWithin r.blocks) (with_key (codes "scope") listed) next
 scoped r some small is = numbered_list r some (codes "scope") (refl, refl)
     (λ bs. list_all is_number (pieces bs)) (λ bs. leb 2 (length (pieces bs)) && leb (length (pieces bs)) 6)
-    (λ bs. list_all (λ p. ltb (value_of p) r.blocks) (pieces bs)) (λ bs. is-distinct eqb (values_of bs)) is
+    (λ bs. list_all (λ p. ltb (value_of p) r.blocks) (pieces bs)) (λ bs. is_distinct eqb (values_of bs)) is
     (λ bs a b c d.
     let (two, six) = and_parts (leb 2 (length (pieces bs))) _ b in
     let e = length-map (pieces bs) value_of in

@@ -2,8 +2,8 @@
 use Rattle.std.proofs.Common.{◌≡◌, ℕ, zero, suc, ◌+◌, ◌^◌, ◌≤◌, Bool, true, false, cond, ◌&&◌, eqb, ltb, leb, ◌⊎◌, List, [], ◌∷◌, ◌++◌, map, length, codes, sym, refl, ap, ◌∙◌, subst, inl, inr, arith, lit≤}
 use lib.ListN.{length-map}
 use Rattle.std.specs.List.{list_all}
-use Rattle.std.specs.Map.Invariant.{is-distinct}
 use Rattle.std.proofs.lemmas.Bool.{and_parts, eqb-true, leb-true}
+use Rattle.network.specs.Sheets.{is_distinct}
 use Rattle.network.specs.declared.refusal.Refusal.TheVariants.{Malformed}
 use Rattle.banks.specs.declared.table.Kind.{Kind}
 use Rattle.banks.specs.declared.table.Kind.TheVariants.{Allow, Deny}
@@ -63,7 +63,7 @@ module _ (q p : Reading) (key bs : List ℕ) (b : q.blocks ≤ 32) (t : q.tuples
 
   scope_solid : (r : Reading) → scope_line (same_bytes key (codes "scope")) bs q r ≡ good p → (length vs ≤ 6 → Solid r) → Solid p
   scope_solid r h solid =
-      passed (same_bytes key (codes "scope") && list_all is_number ps) (leb 2 (length ps) && leb (length ps) 6) (list_all (λ y. ltb (value_of y) q.blocks) ps) (is-distinct eqb vs) r p h
+      passed (same_bytes key (codes "scope") && list_all is_number ps) (leb 2 (length ps) && leb (length ps) 6) (list_all (λ y. ltb (value_of y) q.blocks) ps) (is_distinct eqb vs) r p h
       (λ _ limit _.
       let six : length ps ≤ 6 = leb-true (length ps) 6 (and_parts (leb 2 (length ps)) (leb (length ps) 6) limit).1 in
       solid (omega (arith, length-map ps value_of)))

@@ -1,7 +1,7 @@
 -- A line is refused where its checks refuse its value, and otherwise leads on to the next stage.
 use Rattle.std.proofs.Common.{◌≡◌, ℕ, Bool, true, false, ◌&&◌, eqb, ltb, leb, List, map, length, Ok, Err, codes, sym, refl, ap, ◌∙◌, ap₂}
 use Rattle.std.specs.List.{list_all}
-use Rattle.std.specs.Map.Invariant.{is-distinct}
+use Rattle.network.specs.Sheets.{is_distinct}
 use Rattle.network.specs.declared.refusal.Refusal.{Refusal}
 use Rattle.banks.specs.declared.table.Kind.{Kind}
 use Rattle.card.specs.declared.entry.Entry.{Entry}
@@ -42,5 +42,5 @@ pub scope_leads : (s : Stage) (q : Reading) (k : ℕ) (kind : Kind) (bs : List �
 scope_leads s q k kind bs scope r s-is checks is =
     let values = map value_of (pieces bs) in
     let (e, g) = goes (list_all is_number (pieces bs)) (leb 2 (length (pieces bs)) && leb (length (pieces bs)) 6) (list_all (λ p. ltb (value_of p) q.blocks) (pieces bs))
-    (is-distinct eqb values) (list_of values) (at (rows_due k kind values) q) Nothing scope (checks ∙ ap (λ (t : Stage). scope_checked t.blocks bs) s-is) in
+    (is_distinct eqb values) (list_of values) (at (rows_due k kind values) q) Nothing scope (checks ∙ ap (λ (t : Stage). scope_checked t.blocks bs) s-is) in
     ap Ok (leads s q (Tuples k kind scope) (rows_due k kind values) Nothing r is s-is (ap (Tuples k kind) e)) ∙ sym g

@@ -2,10 +2,9 @@
 use Rattle.std.proofs.Common.{◌≡◌, ℕ, zero, suc, ◌+◌, ◌*◌, ◌<◌, ◌≤◌, Bool, true, false, cond, not, ◌&&◌, ◌||◌, eqb, ltb, leb, List, [], ◌∷◌, ◌++◌, map, length, take, drop, Ok, Err, sum_by, sym, refl, ap, ◌∙◌, subst, ap₂, append_assoc, append-nil, suc-mul, zero-mul, arith, length-append}
 use lib.ListN.{length-map}
 use Rattle.std.specs.List.{list_all, flat_map, AllByRecursion as All}
-use Rattle.std.specs.Map.Invariant.{is-distinct}
 use Rattle.std.proofs.lemmas.List.{drop_at, take_all, take_at}
 use Rattle.std.proofs.lemmas.Bool.{and_from, and_parts, cond-true, le-ltb, lt-leb, lt-ltb, or_from}
-use Rattle.network.specs.Sheets.{misfits, Sheet, some_pass}
+use Rattle.network.specs.Sheets.{is_distinct, misfits, Sheet, some_pass}
 use Rattle.banks.specs.declared.table.TableRecord.{TableRecord}
 use Rattle.banks.specs.declared.rule.RuleRecord.{RuleRecord}
 use Rattle.banks.specs.Accepted.{blocks_front, well_sized}

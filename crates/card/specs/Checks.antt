@@ -1,7 +1,7 @@
 -- The checks of a value in their order: form, limit, range, repetition.
 use Rattle.std.specs.Prelude.{ℕ, Bool, true, cond, ◌&&◌, List, map, length, Ok, Err, Result, ◌==◌, nat_eq, nat_le, nat_lt}
 use Rattle.std.specs.List.{list_all}
-use Rattle.std.specs.Map.Invariant.{is-distinct}
+use Rattle.network.specs.Sheets.{is_distinct}
 use Rattle.network.specs.Tree.{precedes}
 use Rattle.network.specs.declared.refusal.Refusal.{Refusal}
 use Rattle.network.specs.declared.refusal.Refusal.TheVariants.{LimitExceeded, Malformed, OutOfRange, Repeated}
@@ -20,7 +20,7 @@ number_checked least most bs = checked (is_number bs) (nat_le least (value_of bs
 abbrev pub scope_checked : ℕ → List ℕ → Result NumberList Refusal
 scope_checked n bs =
     checked (list_all is_number (pieces bs)) (nat_le 2 (length (pieces bs)) && nat_le (length (pieces bs)) 6) (list_all (λ p. nat_lt (value_of p) n) (pieces bs))
-    (is-distinct nat_eq (map value_of (pieces bs))) (list_of (map value_of (pieces bs)))
+    (is_distinct nat_eq (map value_of (pieces bs))) (list_of (map value_of (pieces bs)))
 
 -- a slot for each block of a scope, above the last tuple
 abbrev pub tuple_checked : ℕ → List ℕ → List ℕ → Result NumberList Refusal

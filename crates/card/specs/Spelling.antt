@@ -1,7 +1,7 @@
 -- The network that a card spells, its limits, and its one spelling.
 use Rattle.std.specs.Prelude.{◌≡◌, ℕ, ◌^◌, ◌<◌, ◌≤◌, true, List, [], ◌∷◌, ◌++◌, length, codes, decimal, sum_by, nat_eq}
-use Rattle.std.specs.Map.Invariant.{is-distinct}
 use Rattle.std.specs.List.{AllByRecursion as All}
+use Rattle.network.specs.Sheets.{is_distinct}
 use Rattle.banks.specs.declared.table.Kind.{Kind}
 use Rattle.banks.specs.declared.table.Kind.TheVariants.{Allow, Deny}
 use Rattle.banks.specs.declared.rule.Rule.{Rule}
@@ -27,7 +27,7 @@ pub record ScopeWithin (n : ℕ) (scope : List ℕ) : Type 0 where
   pub low : 2 ≤ length scope
   pub high : length scope ≤ 6
   pub blocks : All (λ b. b < n) scope
-  pub apart : is-distinct nat_eq scope ≡ true
+  pub apart : is_distinct nat_eq scope ≡ true
 
 pub record TableWithin (n : ℕ) (t : Table) : Type 0 where
   pub scope : ScopeWithin n t.scope

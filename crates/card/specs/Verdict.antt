@@ -1,7 +1,7 @@
 -- The verdict on a card: the network it spells, or the first faulty line and why.
 use Rattle.std.specs.Prelude.{ℕ, zero, suc, ◌+◌, ◌-◌, ◌*◌, ◌^◌, Bool, true, false, cond, ◌&&◌, ltb, List, [], ◌∷◌, ◌++◌, map, length, codes, fold, ◌==◌, nat_eq, nat_le, nat_lt}
 use Rattle.std.specs.List.{list_all}
-use Rattle.std.specs.Map.Invariant.{is-distinct}
+use Rattle.network.specs.Sheets.{is_distinct}
 use Rattle.network.specs.Tree.{precedes}
 use Rattle.network.specs.declared.refusal.Refusal.{Refusal}
 use Rattle.network.specs.declared.refusal.Refusal.TheVariants.{LimitExceeded, Malformed, OutOfRange, Repeated}
@@ -131,7 +131,7 @@ above_last (t ∷ ts) u = precedes (last_tuple (t ∷ ts)) u
 abbrev pub scope_line : Bool → List ℕ → Reading → Reading → Judged
 scope_line key value r next =
     judged (key && list_all is_number (pieces value)) (nat_le 2 (length (pieces value)) && nat_le (length (pieces value)) 6)
-    (list_all (λ p. ltb (value_of p) r.blocks) (pieces value)) (is-distinct nat_eq (map value_of (pieces value))) next
+    (list_all (λ p. ltb (value_of p) r.blocks) (pieces value)) (is_distinct nat_eq (map value_of (pieces value))) next
 
 -- a line with the key and the value that it has
 abbrev pub judge : Reading → Due → List ℕ → List ℕ → Judged

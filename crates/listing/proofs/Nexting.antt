@@ -2,10 +2,10 @@
 use Rattle.std.proofs.Common.{◌≡◌, ℕ, ◌<◌, ◌≤◌, true, false, cond, ◌||◌, eqb, ltb, List, [], ◌++◌, length, take, drop, sym, refl, ap, ◌∙◌, subst, ap₂, arith}
 use Rattle.std.proofs.lemmas.List.{take-append-drop}
 use Rattle.std.proofs.lemmas.Bool.{cond-false, cond-true, le-ltb, lt-ltb}
-use Rattle.network.specs.Sheets.{Sheet, misfits}
+use Rattle.network.specs.Sheets.{Sheet}
 use Rattle.network.specs.Filters.{Filtering}
 use Rattle.network.proofs.TreeOrder.{tree_ascends}
-use Rattle.listing.specs.Model.{Listing, Outcome, Step, blank, done, if_plan, listing, next_call, next_step, outcome, plan, refuse, refused, spent, step, stop, walk, walked}
+use Rattle.listing.specs.Model.{blank, done, if_plan, Listing, listing, misfits, next_call, next_step, outcome, Outcome, plan, refuse, refused, spent, step, Step, stop, walk, walked}
 use Rattle.listing.specs.Runs.{WalksOn}
 use Rattle.listing.specs.Represents.{Continued, Keeps, Meets, PlaceAt, Takes, last_of, nodes_of, opened_of, pinned_of, records_of}
 use Rattle.listing.specs.Records.{masks_of, pins_of}

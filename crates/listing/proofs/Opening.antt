@@ -1,8 +1,8 @@
 -- What `open` refuses, and what it leaves behind.
 use Rattle.std.proofs.Common.{◌≡◌, ℕ, ◌<◌, ◌≤◌, true, false, cond, ◌||◌, eqb, ltb, List, map, length, take, None, sym, refl, ap, ◌∙◌, subst, arith}
 use Rattle.std.proofs.lemmas.Bool.{cond-false, cond-true}
-use Rattle.network.specs.Sheets.{Sheet, misfits}
-use Rattle.listing.specs.Model.{accepted, blank, listing, open_call, refuse, refused, started}
+use Rattle.network.specs.Sheets.{Sheet}
+use Rattle.listing.specs.Model.{accepted, blank, listing, misfits, open_call, refuse, refused, started}
 use Rattle.listing.specs.Records.{masks_of, pins_of, unpinned}
 use Rattle.listing.specs.Represents.{Meets, Takes}
 use Rattle.listing.specs.declared.session.Session.{Session}

@@ -1,6 +1,7 @@
 // Whether a bank's sheets name only blocks that there are.
-ghost use Rattle.network.specs.Sheets.{sheet_at, some_pass, misfits};
+ghost use Rattle.network.specs.Sheets.{sheet_at, some_pass};
 ghost use Rattle.std.specs.Prelude.{◌≡◌, nat_le};
+ghost use Rattle.listing.specs.Model.{misfits};
 
 use network::bank::Bank;
 

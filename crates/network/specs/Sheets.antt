@@ -1,6 +1,6 @@
 -- What a bank of sheets means: a list of sheets, each a scope and the tuples that it allows.
-use Rattle.std.specs.Prelude.{◌≡◌, ℕ, zero, suc, ◌/◌, ◌%◌, ◌^◌, ◌<◌, Bool, true, false, cond, ◌&&◌, ◌||◌, ◌⊎◌, List, [], ◌∷◌, map, length, get_or, take, sum_by, filter, ◌==◌, ◌≢◌, nat_le, nat_lt, slice_index, slice_index_or, slice_set}
-use Rattle.std.specs.List.{range_with_len, flat_map}
+use Rattle.std.specs.Prelude.{◌≡◌, ℕ, zero, suc, ◌/◌, ◌%◌, ◌^◌, ◌<◌, Bool, true, false, cond, not, ◌&&◌, ◌||◌, ◌⊎◌, List, [], ◌∷◌, map, length, get_or, take, sum_by, filter, ◌==◌, ◌≢◌, nat_le, nat_lt, slice_index, slice_index_or, slice_set}
+use Rattle.std.specs.List.{range_with_len, flat_map, list_all}
 
 -- A sheet is a constraint: it ties the blocks of its scope, and allows some tuples with one slot for each of them, in the scope's order.
 pub record Sheet : Type 0 where
@@ -28,6 +28,11 @@ choices (m ∷ ms) = flat_map (λ s. map (λ t. s ∷ t) (choices ms)) (slots m)
 abbrev pub some_pass : {A : Type 0} → (A → Bool) → List A → Bool
 some_pass f [] = false
 some_pass f (x ∷ xs) = f x || some_pass f xs
+
+-- no two elements are equal
+abbrev pub is_distinct : {A : Type 0} → (A → A → Bool) → List A → Bool
+is_distinct same [] = true
+is_distinct same (x ∷ xs) = list_all (λ y. not (same x y)) xs && is_distinct same xs
 
 -- x is in the list
 abbrev pub In : {A : Type 0} → A → List A → Type 0
@@ -66,7 +71,3 @@ HasSupport sh masks p s = (p < length sh.scope) × (s < 32) × ((t : List ℕ) �
 pub record Decides (b : Bool) (P : Type 0) : Type 0 where
   pub holds : b ≡ true → P
   pub tells : P → b ≡ true
-
--- a sheet names a block not below n
-abbrev pub misfits : ℕ → List Sheet → Bool
-misfits n m = some_pass (λ sh. some_pass (λ b. nat_le n b) sh.scope) m

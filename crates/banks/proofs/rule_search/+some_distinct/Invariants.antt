@@ -5,8 +5,8 @@ use Rattle.banks.specs.Rules.{free}
 use Rattle.banks.proofs.Free.{goes_on}
 use Rattle.banks.proofs.rule_search.+some_distinct.Given as goal
 
-abbrev pub decreases-some-distinct : goal.decreases-some-distinct
-decreases-some-distinct l = l.arity - l.q
+abbrev pub decreases-some_distinct : goal.decreases-some_distinct
+decreases-some_distinct l = l.arity - l.q
 
 abbrev pub invariant-loop-s : goal.invariant-loop-s
 invariant-loop-s l =

@@ -23,7 +23,7 @@ returns c =
     let e : r.first + r.tuples * r.arity - r.first ≡ r.tuples * r.arity = omega arith in
     let z : r.arity - 0 ≡ r.arity = omega arith in
     let one : c.single.result ≡ 2 ^ c.args.s = c.single.ensures ∙ cond-true (ltb c.args.s 32) (2 ^ c.args.s) 0 (lt-ltb c.args.s 32 c.if-s-ge-SLOTS.false) in
-    c.some-allowed.ensures
+    c.some_allowed.ensures
     ∙ ap (λ k. some_pass (allowed_in r.kind r.arity (tuples_in r.arity r.tuples (take k (drop r.first cells)))) (choices (take (r.arity - 0) (set ms c.args.p c.single.result)))) e
     ∙ ap₂ (λ k x. some_pass (table_sheet cells r).allows (choices (take k (set ms c.args.p x)))) z one
     ∙ sym (supported_is ms r.arity c.args.p c.args.s c.if-p-arity.false (table_sheet cells r) (blocks_many r.arity r.blocks) c.if-s-ge-SLOTS.false)

@@ -1,6 +1,6 @@
 use Rattle.std.proofs.Common.{◌≡◌, ◌-◌, true, false, eqb, ltb, take, subst, inl, inr, arith}
 use Rattle.std.specs.List.{list_all}
-use Rattle.std.specs.Map.Invariant.{is-distinct}
+use Rattle.network.specs.Sheets.{is_distinct}
 use Rattle.card.proofs.Checking.{scope_few, scope_good, scope_many, scope_out, scope_twice}
 use Rattle.card.proofs.checks.scope_in.Goals as goal
 
@@ -29,7 +29,7 @@ returns-then-not-all-distinct c =
     let e : l.count - 0 ≡ l.count = omega arith in
     scope_twice c.args.value.now l read.1 c.args.blocks (omega arith) read.0 (omega arith) (omega arith)
     (subst (λ k. true ≡ list_all (λ x. ltb x c.args.blocks) (take k l.numbers)) e c.if-not-all-below.ensures)
-    (subst (λ k. false ≡ is-distinct eqb (take k l.numbers)) e c.if-not-all-distinct.ensures)
+    (subst (λ k. false ≡ is_distinct eqb (take k l.numbers)) e c.if-not-all-distinct.ensures)
 
 pub returns : goal.returns
 returns c =
@@ -38,4 +38,4 @@ returns c =
     let e : l.count - 0 ≡ l.count = omega arith in
     scope_good c.args.value.now l read.1 c.args.blocks (omega arith) read.0 (omega arith) (omega arith)
     (subst (λ k. true ≡ list_all (λ x. ltb x c.args.blocks) (take k l.numbers)) e c.if-not-all-below.ensures)
-    (subst (λ k. true ≡ is-distinct eqb (take k l.numbers)) e c.if-not-all-distinct.ensures)
+    (subst (λ k. true ≡ is_distinct eqb (take k l.numbers)) e c.if-not-all-distinct.ensures)

@@ -22,10 +22,10 @@ returns-then-left-eq0 g c =
     let sh = sheet_at m c.args.c in
     let n = c.loop-p.p in
     let q = model c.loop-p.row in
-    let left = c.supported-slots-left.result in
+    let left = c.supported_slots-left.result in
     let d = walked_died m (g.B.Bank.lawful c.args.bank.now) c.args.c c.masks-masks.result (model c.args.row.now) (lawful_code c.args.row.now) n
     (omega (arith, c.arity-p-end.ensures, c.loop-p-test.true)) c.loop-p.invariant (omega (arith, c.block-block.ensures, c.decided.ensures, c.if-block-decided.false)) left
-    (left_read sh c.masks-masks.result q n c.block-block.result c.present-mask-mask.result left c.block-block.ensures c.present-mask-mask.ensures c.supported-slots-left.ensures)
+    (left_read sh c.masks-masks.result q n c.block-block.result c.present_mask-mask.result left c.block-block.ensures c.present_mask-mask.ensures c.supported_slots-left.ensures)
     c.args.reading c.masks-masks.ensures c.requires.inside c.requires.future c.if-left-eq0.true in
     let e = c.keep.ensures ∙ ap (λ b. keep q b left) c.block-block.ensures in
     record { row = e ∙ d.0; told = ap dead e ∙ d.1 }
@@ -39,11 +39,11 @@ loop-p-preserved g c =
     let r = model c.args.row.now in
     let n = c.loop-p.p in
     let q = model c.loop-p.row in
-    let left = c.supported-slots-left.result in
+    let left = c.supported_slots-left.result in
     let l : n < length sh.scope = omega (arith, c.arity-p-end.ensures, c.loop-p-test.true) in
     let u : q.decided ≤ get_or sh.scope n 255 = omega (arith, c.block-block.ensures, c.decided.ensures, c.if-block-decided.false) in
-    let e = left_read sh masks q n c.block-block.result c.present-mask-mask.result left c.block-block.ensures c.present-mask-mask.ensures c.supported-slots-left.ensures in
-    let k = mask_read sh q n c.block-block.result c.present-mask-mask.result c.block-block.ensures c.present-mask-mask.ensures in
+    let e = left_read sh masks q n c.block-block.result c.present_mask-mask.result left c.block-block.ensures c.present_mask-mask.ensures c.supported_slots-left.ensures in
+    let k = mask_read sh q n c.block-block.result c.present_mask-mask.result c.block-block.ensures c.present_mask-mask.ensures in
     elim c.if-left-mask.branch [
       | then-left-mask+else-left-eq0 w ↦
           walked_is (ap model w.row-is ∙ w.keep.ensures ∙ ap (λ b. keep q b left) c.block-block.ensures) w.effect-is

@@ -5,8 +5,8 @@ use Rattle.filters.proofs.Supported.{kept_end, kept_is, kept_less, kept_more}
 use Rattle.filters.proofs.narrowing.supported_slots.Goals as goal
 use Rattle.filters.proofs.narrowing.supported_slots.Goals.{else-supports, then-supports}
 
-pub overflow-add-from : goal.overflow-add-from
-overflow-add-from g c = omega (arith, (first_here c.args.mask c.loop-slot.from c.in-Some.slot c.loop-slot.invariant.most (sym c.in-Some.ensures)).1)
+pub overflow_add-from : goal.overflow_add-from
+overflow_add-from g c = omega (arith, (first_here c.args.mask c.loop-slot.from c.in-Some.slot c.loop-slot.invariant.most (sym c.in-Some.ensures)).1)
 
 pub loop-slot-smaller : goal.loop-slot-smaller
 loop-slot-smaller g c =
@@ -24,4 +24,4 @@ loop-slot-preserved g c =
     ]
 
 pub returns : goal.returns
-returns g c = kept_end c.loop-slot.invariant (sym c.slot-from.ensures ∙ c.in-default.is)
+returns g c = kept_end c.loop-slot.invariant (sym c.slot_from.ensures ∙ c.in_default.is)

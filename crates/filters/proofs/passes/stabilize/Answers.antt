@@ -8,4 +8,4 @@ loop-preserved g c = settles_after c.args.set (g.B.Bank.meaning c.args.bank.now)
 
 pub returns : goal.returns
 returns g c =
-    settled_after c.args.set (g.B.Bank.meaning c.args.bank.now) (lawful_code c.loop.row) c.pass.ensures.row c.pass.result c.pass.ensures.told c.in-default.not-Narrowed ∙ c.loop.invariant
+    settled_after c.args.set (g.B.Bank.meaning c.args.bank.now) (lawful_code c.loop.row) c.pass.ensures.row c.pass.result c.pass.ensures.told c.in_default.not-Narrowed ∙ c.loop.invariant

@@ -1,5 +1,5 @@
 use Rattle.std.proofs.Common.{◌≡◌, false, take}
-use Rattle.network.specs.Sheets.{misfits}
+use Rattle.listing.specs.Model.{misfits}
 use Rattle.listing.proofs.fits.has_misfit.Given as goal
 
 abbrev pub invariant-loop-c : goal.invariant-loop-c

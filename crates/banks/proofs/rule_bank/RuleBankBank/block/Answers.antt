@@ -7,7 +7,7 @@ use Rattle.banks.proofs.rule_bank.RuleBankBank.block.Goals as goal
 
 pub returns-then-c-self : goal.returns-then-c-self
 returns-then-c-self c =
-    c.block-at.ensures
+    c.block_at.ensures
     ∙ ap (λ (sh : Sheet). get_or sh.scope c.args.p 255) (sym (sheet_map rule_sheet c.args.self.now.records.now c.args.c no_rule c.if-c-self.true))
 
 pub returns-else-c-self : goal.returns-else-c-self

@@ -7,14 +7,14 @@ use Rattle.banks.specs.RulesHold.{no_rule, rule_size, rules_lawful}
 use Rattle.banks.specs.SheetAt.{sheet_map, sheet_map_past, unsupported}
 use Rattle.banks.proofs.rule_bank.RuleBankBank.supports.Goals as goal
 
-pub rule-supports-requires : goal.rule-supports-requires
-rule-supports-requires c = let b = c.args.self.now in rule_size b.records.now b.ok c.args.c no_rule c.if-c-self.true
+pub rule_supports-requires : goal.rule_supports-requires
+rule_supports-requires c = let b = c.args.self.now in rule_size b.records.now b.ok c.args.c no_rule c.if-c-self.true
 
 pub returns-then-c-self : goal.returns-then-c-self
 returns-then-c-self c =
     let b = c.args.self.now in
-    let e : c.rule-supports.result ≡ supported (sheet_at (map rule_sheet b.records.now) c.args.c) c.args.masks.now c.args.p c.args.s =
-    c.rule-supports.ensures
+    let e : c.rule_supports.result ≡ supported (sheet_at (map rule_sheet b.records.now) c.args.c) c.args.masks.now c.args.p c.args.s =
+    c.rule_supports.ensures
     ∙ ap (λ (sh : Sheet). supported sh c.args.masks.now c.args.p c.args.s) (sym (sheet_map rule_sheet b.records.now c.args.c no_rule c.if-c-self.true)) in
     record {
       test = e;

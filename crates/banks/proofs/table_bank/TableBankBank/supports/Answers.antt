@@ -7,14 +7,14 @@ use Rattle.banks.specs.TablesHold.{no_table, table_fine_at, tables_lawful}
 use Rattle.banks.specs.SheetAt.{sheet_map, sheet_map_past, unsupported}
 use Rattle.banks.proofs.table_bank.TableBankBank.supports.Goals as goal
 
-pub table-supports-requires : goal.table-supports-requires
-table-supports-requires c = let b = c.args.self.now in table_fine_at b.cells.now b.records.now b.ok c.args.c no_table c.if-c-self.true
+pub table_supports-requires : goal.table_supports-requires
+table_supports-requires c = let b = c.args.self.now in table_fine_at b.cells.now b.records.now b.ok c.args.c no_table c.if-c-self.true
 
 pub returns-then-c-self : goal.returns-then-c-self
 returns-then-c-self c =
     let b = c.args.self.now in
-    let e : c.table-supports.result ≡ supported (sheet_at (map (table_sheet b.cells.now) b.records.now) c.args.c) c.args.masks.now c.args.p c.args.s =
-    c.table-supports.ensures
+    let e : c.table_supports.result ≡ supported (sheet_at (map (table_sheet b.cells.now) b.records.now) c.args.c) c.args.masks.now c.args.p c.args.s =
+    c.table_supports.ensures
     ∙ ap (λ (sh : Sheet). supported sh c.args.masks.now c.args.p c.args.s) (sym (sheet_map (table_sheet b.cells.now) b.records.now c.args.c no_table c.if-c-self.true)) in
     record {
       test = e;

@@ -2,8 +2,8 @@ use Rattle.std.proofs.Common.{◌≡◌, ◌+◌, ◌-◌, ◌*◌, length, take
 use Rattle.banks.proofs.Tupled.{tuple_fits, tuple_is, tuple_long}
 use Rattle.banks.proofs.tuples.Tuples.at.Goals as goal
 
-pub slice-bounds-result-end : goal.slice-bounds-result-end
-slice-bounds-result-end c = let t = c.args.self.now in omega (arith, tuple_fits c.args.i t.count t.arity c.requires, t.whole)
+pub slice_bounds-result-end : goal.slice_bounds-result-end
+slice_bounds-result-end c = let t = c.args.self.now in omega (arith, tuple_fits c.args.i t.count t.arity c.requires, t.whole)
 
 pub returns : goal.returns
 returns c =

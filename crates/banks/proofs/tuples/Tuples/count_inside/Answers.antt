@@ -4,10 +4,10 @@ use Rattle.std.proofs.lemmas.List.Sums.{count_by_more_no, count_by_more_yes}
 use Rattle.banks.specs.Tables.{inside, tuples_in}
 use Rattle.banks.proofs.Tupled.{length_tuples}
 use Rattle.banks.proofs.tuples.Tuples.count_inside.Goals as goal
-use Rattle.banks.proofs.tuples.Tuples.count_inside.Goals.{else-is-inside, then-is-inside}
+use Rattle.banks.proofs.tuples.Tuples.count_inside.Goals.{else-is_inside, then-is_inside}
 
-pub is-inside-requires : goal.is-inside-requires
-is-inside-requires c = c.at.ensures.len ∙ sym c.requires
+pub is_inside-requires : goal.is_inside-requires
+is_inside-requires c = c.at.ensures.len ∙ sym c.requires
 
 pub loop-i-preserved : goal.loop-i-preserved
 loop-i-preserved c =
@@ -16,15 +16,15 @@ loop-i-preserved c =
     let ms = c.args.masks.now in
     let i = c.loop-i.i in
     let long : i < length ts = omega (arith, length_tuples t.arity t.count t.cells.now) in
-    elim c.if-is-inside.branch [
-      | then-is-inside w ↦ (
+    elim c.if-is_inside.branch [
+      | then-is_inside w ↦ (
         w.count-is ∙ ap (λ n. n + 1) c.loop-i.invariant.0
-            ∙ sym (count_by_more_yes (inside ms) ts i [] long (ap (inside ms) (sym c.at.ensures.tuple) ∙ sym w.if-is-inside.ensures)),
+            ∙ sym (count_by_more_yes (inside ms) ts i [] long (ap (inside ms) (sym c.at.ensures.tuple) ∙ sym w.if-is_inside.ensures)),
         omega (arith, w.count-is, c.loop-i.invariant.1),
       )
-      | else-is-inside w ↦ (
+      | else-is_inside w ↦ (
         w.count-is ∙ c.loop-i.invariant.0
-            ∙ sym (count_by_more_no (inside ms) ts i [] long (ap (inside ms) (sym c.at.ensures.tuple) ∙ sym w.if-is-inside.ensures)),
+            ∙ sym (count_by_more_no (inside ms) ts i [] long (ap (inside ms) (sym c.at.ensures.tuple) ∙ sym w.if-is_inside.ensures)),
         omega (arith, w.count-is, c.loop-i.invariant.1),
       )
     ]

@@ -16,7 +16,7 @@ tuples-preserved c =
     let t = c.at-tuple.result.now in
     let same : length t ≡ length ms = c.at-tuple.ensures.len ∙ sym c.requires in
     let long : i < length ts = omega (arith, length_tuples c.args.self.now.arity c.args.self.now.count c.args.self.now.cells.now) in
-    let no : inside ms (get_or ts i []) ≡ false = ap (inside ms) (sym c.at-tuple.ensures.tuple) ∙ sym (inside_here ms t same c.loop-q.q c.loop-q.invariant false (omega arith) c.if-not-has-slot.ensures) in (
+    let no : inside ms (get_or ts i []) ≡ false = ap (inside ms) (sym c.at-tuple.ensures.tuple) ∙ sym (inside_here ms t same c.loop-q.q c.loop-q.invariant false (omega arith) c.if-not-has_slot.ensures) in (
       some_no ts i (inside ms) [] c.tuples.invariant.0 long no,
       ap (some_pass (inside ms)) (take_more ts i [] long) ∙ some_append (inside ms) (take i ts) (get_or ts i [] ∷ [])
           ∙ ap₂ (λ x y. x || (y || false)) c.tuples.invariant.1 no,
@@ -27,7 +27,7 @@ loop-q-preserved c =
     let ms = c.args.masks.now in
     let t = c.at-tuple.result.now in
     let same : length t ≡ length ms = c.at-tuple.ensures.len ∙ sym c.requires in
-    inside_here ms t same c.loop-q.q c.loop-q.invariant true (omega arith) c.if-not-has-slot.ensures
+    inside_here ms t same c.loop-q.q c.loop-q.invariant true (omega arith) c.if-not-has_slot.ensures
 
 pub returns-after-loop-q : goal.returns-after-loop-q
 returns-after-loop-q c =

@@ -6,8 +6,8 @@ use Rattle.filters.specs.Readings.{mask_by}
 use Rattle.filters.proofs.Scopes.{at_most_six, gathered}
 use Rattle.filters.proofs.reading.Reading.masks.Goals as goal
 
-pub offset-bounds-masks-p : goal.offset-bounds-masks-p
-offset-bounds-masks-p g c =
+pub offset_bounds-masks-p : goal.offset_bounds-masks-p
+offset_bounds-masks-p g c =
     let six = at_most_six (g.B.Bank.meaning c.args.bank.now) (g.B.Bank.lawful c.args.bank.now) c.args.c in
     omega (arith, c.arity-p-end.ensures, c.loop-p-test.true)
 

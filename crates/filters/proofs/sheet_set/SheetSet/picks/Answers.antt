@@ -14,8 +14,8 @@ returns-then-block-blocks g c =
     sym (none_over c.args.self (model c.args.row.now) sh c.loop-p.p (omega (arith, c.arity-p-end.ensures, c.loop-p-test.true))
     (omega (arith, c.blocks-in-loop-p.ensures, c.block-block.ensures, c.if-block-blocks.true)))
 
-pub overflow-add-future : goal.overflow-add-future
-overflow-add-future g c =
+pub overflow_add-future : goal.overflow_add-future
+overflow_add-future g c =
     let sh = sheet_at (g.B.Bank.meaning c.args.bank.now) c.args.c in
     let p = c.loop-p.p in
     omega (
@@ -23,7 +23,7 @@ overflow-add-future g c =
       c.loop-p.invariant.future_is,
       count_by-le-length (λ b. leb c.args.row.now.decided b) (take p sh.scope),
       length-take-le p sh.scope (omega (arith, c.arity-p-end.ensures, c.loop-p-test.true)),
-      c.arity-p-end.type-inv,
+      c.arity-p-end.type_inv,
     )
 
 pub loop-p-preserved : goal.loop-p-preserved
@@ -36,11 +36,11 @@ loop-p-preserved g c =
     let more = take_more sh.scope p 255 (omega (arith, c.arity-p-end.ensures, c.loop-p-test.true)) in
     subst (λ xs. Named r xs c.if-block-decided.current c.if-block-decided.past c.if-block-decided.future) (sym more) (elim c.if-block-decided.branch [
       | then-block-decided w ↦ named_future c.loop-p.invariant x l (omega (arith, c.decided.ensures, c.block-block.ensures, w.if-block-decided.true))
-          c.if-block-decided.current c.if-block-decided.past c.if-block-decided.future w.current_is w.past-is w.future_is
+          c.if-block-decided.current c.if-block-decided.past c.if-block-decided.future w.current-is w.past-is w.future-is
       | else-block-decided+then-current w ↦ named_past c.loop-p.invariant x l (omega (arith, c.decided.ensures, c.block-block.ensures, w.if-block-decided.false))
-          c.if-block-decided.current c.if-block-decided.past c.if-block-decided.future (w.current_is ∙ w.if-current.true ∙ sym (ap (λ v. v || eqb (x + 1) r.decided) w.if-current.true)) w.past-is w.future_is
+          c.if-block-decided.current c.if-block-decided.past c.if-block-decided.future (w.current-is ∙ w.if-current.true ∙ sym (ap (λ v. v || eqb (x + 1) r.decided) w.if-current.true)) w.past-is w.future-is
       | else-block-decided+else-current w ↦ named_past c.loop-p.invariant x l (omega (arith, c.decided.ensures, c.block-block.ensures, w.if-block-decided.false))
-          c.if-block-decided.current c.if-block-decided.past c.if-block-decided.future (w.current_is ∙ ap₂ (λ a b. eqb (a + 1) b) c.block-block.ensures w.decided-else-current.ensures ∙ sym (ap (λ v. v || eqb (x + 1) r.decided) w.if-current.false)) w.past-is w.future_is
+          c.if-block-decided.current c.if-block-decided.past c.if-block-decided.future (w.current-is ∙ ap₂ (λ a b. eqb (a + 1) b) c.block-block.ensures w.decided-else-current.ensures ∙ sym (ap (λ v. v || eqb (x + 1) r.decided) w.if-current.false)) w.past-is w.future-is
     ])
 
 pub returns-then-current-2 : goal.returns-then-current-2

@@ -7,8 +7,8 @@ use Rattle.listing.proofs.listing.Listing.go_on.Goals as goal
 pub rebuild-requires : goal.rebuild-requires
 rebuild-requires g c = let s = c.args.self.now in record { start = refl; first = refl; last = omega (arith, s.deep, s.few); slots = slots_of s.path s.depth s.slots }
 
-pub visit-nodes-outcome-requires : goal.visit-nodes-outcome-requires
-visit-nodes-outcome-requires g c =
+pub visit_nodes-outcome-requires : goal.visit_nodes-outcome-requires
+visit_nodes-outcome-requires g c =
     let s = c.args.self.now in
     let u = c.rebuild.new.self in
     let r = c.rebuild.ensures.rows in
@@ -21,37 +21,37 @@ visit-nodes-outcome-requires g c =
       rows = λ j l. ((h j l).0, (h j l).1 ∙ sym w);
     }
 
-pub invariant-of-self : goal.invariant-of-self
-invariant-of-self g c =
+pub invariant_of-self : goal.invariant_of-self
+invariant_of-self g c =
     let s = c.args.self.now in
-    let t = c.visit-nodes-outcome.new.self in
-    let e = c.visit-nodes-outcome.ensures.walked in
+    let t = c.visit_nodes-outcome.new.self in
+    let e = c.visit_nodes-outcome.ensures.walked in
     let low : t.depth ≤ s.blocks = omega (arith, e.deep, wide s c.rebuild.ensures.rows c.root-root.ensures) in
     let long : length (take t.depth t.path) ≡ t.depth = length-take-le t.depth t.path (e.room c.if-visits-gt0.true) in
-    (s.few, (s.sized, (s.lawful, (low, (long, (slots_to t.path t.depth long e.slotted, tt))))))
+    record { few = s.few; sized = s.sized; lawful = s.lawful; deep = low; long = long; slots = slots_to t.path t.depth long e.slotted }
 
 pub returns-then-visits-gt0 : goal.returns-then-visits-gt0
 returns-then-visits-gt0 g c =
     let s = c.args.self.now in
     let u = c.rebuild.new.self in
-    let t = c.visit-nodes-outcome.new.self in
+    let t = c.visit_nodes-outcome.new.self in
     let F = g.F.Filter.filtered c.args.filter.now in
     let m = g.B.Bank.meaning c.args.bank.now in
-    let o = c.visit-nodes-outcome.result.0 in
-    let v = c.visit-nodes-outcome.result.1 in
+    let o = c.visit_nodes-outcome.result.0 in
+    let v = c.visit_nodes-outcome.result.1 in
     let w = walk_is s F (g.F.Filter.filtered c.rebuild.new.filter) m (models u.rows) u.path u.depth u.from c.args.budget t.path t.depth o v
-    c.rebuild.ensures.rows c.root-root.ensures c.rebuild.ensures.meaning c.rebuild.ensures.path c.visit-nodes-outcome.ensures.walked in
-    record { walk = moved_on s _ F m c.args.budget t.path t.depth o v w refl refl c.if-visits-gt0.true refl refl; meaning = c.visit-nodes-outcome.ensures.meaning ∙ c.rebuild.ensures.meaning }
+    c.rebuild.ensures.rows c.root-root.ensures c.rebuild.ensures.meaning c.rebuild.ensures.path c.visit_nodes-outcome.ensures.walked in
+    record { walk = moved_on s _ F m c.args.budget t.path t.depth o v w refl refl c.if-visits-gt0.true refl refl; meaning = c.visit_nodes-outcome.ensures.meaning ∙ c.rebuild.ensures.meaning }
 
 pub returns-else-visits-gt0 : goal.returns-else-visits-gt0
 returns-else-visits-gt0 g c =
     let s = c.args.self.now in
     let u = c.rebuild.new.self in
-    let t = c.visit-nodes-outcome.new.self in
+    let t = c.visit_nodes-outcome.new.self in
     let F = g.F.Filter.filtered c.args.filter.now in
     let m = g.B.Bank.meaning c.args.bank.now in
-    let o = c.visit-nodes-outcome.result.0 in
-    let v = c.visit-nodes-outcome.result.1 in
+    let o = c.visit_nodes-outcome.result.0 in
+    let v = c.visit_nodes-outcome.result.1 in
     let w = walk_is s F (g.F.Filter.filtered c.rebuild.new.filter) m (models u.rows) u.path u.depth u.from c.args.budget t.path t.depth o v
-    c.rebuild.ensures.rows c.root-root.ensures c.rebuild.ensures.meaning c.rebuild.ensures.path c.visit-nodes-outcome.ensures.walked in
-    record { walk = stayed s s F m c.args.budget t.path t.depth o v w refl refl (omega (arith, c.if-visits-gt0.false)) refl; meaning = c.visit-nodes-outcome.ensures.meaning ∙ c.rebuild.ensures.meaning }
+    c.rebuild.ensures.rows c.root-root.ensures c.rebuild.ensures.meaning c.rebuild.ensures.path c.visit_nodes-outcome.ensures.walked in
+    record { walk = stayed s s F m c.args.budget t.path t.depth o v w refl refl (omega (arith, c.if-visits-gt0.false)) refl; meaning = c.visit_nodes-outcome.ensures.meaning ∙ c.rebuild.ensures.meaning }

@@ -22,41 +22,40 @@ returns-then-block-self c =
     let e = pin_outside s b k c.if-self-eq0.false (and_left (ltb b s.listing.blocks) (ltb k 32 && m) (le-ltb b s.listing.blocks c.if-block-self.true)) in
     record { step = e; runs = runs_from s s _ _ e; refused = refl }
 
-pub returns-then-not-has-slot : goal.returns-then-not-has-slot
-returns-then-not-has-slot c =
+pub returns-then-not-has_slot : goal.returns-then-not-has_slot
+returns-then-not-has_slot c =
     let s = c.args.self.now in
     let b = c.args.block in
     let k = c.args.slot in
     let m = has (get_or s.listing.records b no_record).opened k in
-    let e = pin_outside s b k c.if-self-eq0.false (and_right (ltb b s.listing.blocks) (ltb k 32 && m) (sym c.if-not-has-slot.ensures)) in
+    let e = pin_outside s b k c.if-self-eq0.false (and_right (ltb b s.listing.blocks) (ltb k 32 && m) (sym c.if-not-has_slot.ensures)) in
     record { step = e; runs = runs_from s s _ _ e; refused = refl }
 
-pub returns-then-is-some : goal.returns-then-is-some
-returns-then-is-some c =
+pub returns-then-is_some : goal.returns-then-is_some
+returns-then-is_some c =
     let s = c.args.self.now in
     let b = c.args.block in
     let k = c.args.slot in
     let m = has (get_or s.listing.records b no_record).opened k in
-    let f : pinnable s b k ≡ true = and_from (ltb b s.listing.blocks) (ltb k 32 && m) (lt-ltb b s.listing.blocks c.if-block-self.false) (sym c.if-not-has-slot.ensures) in
-    let e = pin_twice s b k c.if-self-eq0.false f (sym c.if-is-some.ensures) in
+    let f : pinnable s b k ≡ true = and_from (ltb b s.listing.blocks) (ltb k 32 && m) (lt-ltb b s.listing.blocks c.if-block-self.false) (sym c.if-not-has_slot.ensures) in
+    let e = pin_twice s b k c.if-self-eq0.false f (sym c.if-is_some.ensures) in
     record { step = e; runs = runs_from s s _ _ e; refused = refl }
 
-pub invariant-of-listing : goal.invariant-of-listing
-invariant-of-listing c =
+pub invariant_of-listing : goal.invariant_of-listing
+invariant_of-listing c =
     let s = c.args.self.now.listing in
     let b = c.args.block in
     let k = c.args.slot in
     let m = has (get_or s.records b no_record).opened k in
-    let f = and_parts (ltb k 32) m (sym c.if-not-has-slot.ensures) in (
-      s.few,
-      (
-        pinned_size s.records s.blocks b c.pin-at.new.self k c.pin-at.ensures s.sized,
-        (
-          λ p. ∥∥₁_map (s.lawful p) (pinned_lawful s.records s.blocks b c.pin-at.new.self k c.pin-at.ensures s.sized c.if-block-self.false (ltb-true k 32 f.0) f.1),
-          (omega arith, (refl, (λ _. omega arith, tt))),
-        ),
-      ),
-    )
+    let f = and_parts (ltb k 32) m (sym c.if-not-has_slot.ensures) in record {
+      few = s.few;
+      sized = pinned_size s.records s.blocks b c.pin_at.new.self k c.pin_at.ensures s.sized;
+      lawful =
+        λ p. ∥∥₁_map (s.lawful p) (pinned_lawful s.records s.blocks b c.pin_at.new.self k c.pin_at.ensures s.sized c.if-block-self.false (ltb-true k 32 f.0) f.1);
+      deep = omega arith;
+      long = refl;
+      slots = λ _. omega arith;
+    }
 
 pub returns : goal.returns
 returns c =
@@ -64,6 +63,6 @@ returns c =
     let b = c.args.block in
     let k = c.args.slot in
     let m = has (get_or s.listing.records b no_record).opened k in
-    let f : pinnable s b k ≡ true = and_from (ltb b s.listing.blocks) (ltb k 32 && m) (lt-ltb b s.listing.blocks c.if-block-self.false) (sym c.if-not-has-slot.ensures) in
-    let e = pin_accepted s b k c.if-self-eq0.false _ c.pin-at.new.self c.pin-at.ensures f (sym c.if-is-some.ensures) refl refl refl in
+    let f : pinnable s b k ≡ true = and_from (ltb b s.listing.blocks) (ltb k 32 && m) (lt-ltb b s.listing.blocks c.if-block-self.false) (sym c.if-not-has_slot.ensures) in
+    let e = pin_accepted s b k c.if-self-eq0.false _ c.pin_at.new.self c.pin_at.ensures f (sym c.if-is_some.ensures) refl refl refl in
     record { step = e; runs = runs_from s _ _ _ e; refused = tt }

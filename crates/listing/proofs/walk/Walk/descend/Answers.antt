@@ -15,11 +15,11 @@ returns g c =
     let f = g.F.Filter.filtered c.args.filter.now (g.B.Bank.meaning c.args.bank.now) in
     let long : length rows ≡ 33 = omega arith in
     let a = get_or rows d c.index-self-depth.result in
-    let one = reread rows (d + 1) a c.index-self-depth-3.result (omega (arith, long, c.requires.0)) ∙ read rows d c.index-self-depth.result (omega (arith, long, c.requires.0)) in
-    let two = reread (set rows (d + 1) a) (d + 1) c.decide.new.self c.index-self-depth-4.result (omega (arith, long, c.requires.0, length-set rows (d + 1) a)) in
+    let one = reread rows (d + 1) a c.index-self-depth-3.result (omega (arith, long, c.requires.depth_bound)) ∙ read rows d c.index-self-depth.result (omega (arith, long, c.requires.depth_bound)) in
+    let two = reread (set rows (d + 1) a) (d + 1) c.decide.new.self c.index-self-depth-4.result (omega (arith, long, c.requires.depth_bound, length-set rows (d + 1) a)) in
     let old = get_or (set rows (d + 1) a) (d + 1) c.index-self-depth-3.result in
     let offered : c.decide.result ≡ true = c.decide.ensures.offered ∙ and_from (ltb s 32) (has (next_mask (model old)) s)
-    (lt-ltb s 32 c.requires.1) (ap (λ r. has (next_mask r) s) one ∙ c.requires.2) in
+    (lt-ltb s 32 c.requires.slot_bound) (ap (λ r. has (next_mask r) s) one ∙ c.requires.slot_value) in
     let decided = decided_so c.decide.result c.decide.new.self old (decide (model old) s) offered c.decide.ensures.row in
     record {
       rows =

@@ -26,7 +26,7 @@ returns-then-depth-eq0 c =
     let a = c.loop-slot.from in
     let v = c.loop-slot.invariant in
     v.2 f n ∙ at_top f n (models rows) c.args.self.now.path k a c.if-depth-eq0.true
-    (ap (λ r. first_of (slots_from (next_mask r) a)) (sym (read rows k c.index-self-depth.result (omega (arith, v.0, c.requires.deep)))) ∙ sym c.in-default.ensures)
+    (ap (λ r. first_of (slots_from (next_mask r) a)) (sym (read rows k c.index-self-depth.result (omega (arith, v.0, c.requires.deep)))) ∙ sym c.in_default.ensures)
 
 pub loop-slot-preserved : goal.loop-slot-preserved
 loop-slot-preserved c =
@@ -37,5 +37,5 @@ loop-slot-preserved c =
       omega (arith, v.0),
       omega (arith, c.requires.slots (k - 1) (omega (arith, v.0, c.if-depth-eq0.false))),
       λ f n. v.2 f n ∙ go_up f n (models rows) c.args.self.now.path k a c.if-depth-eq0.false
-          (ap (λ r. first_of (slots_from (next_mask r) a)) (sym (read rows k c.index-self-depth.result (omega (arith, v.0, c.requires.deep)))) ∙ sym c.in-default.ensures),
+          (ap (λ r. first_of (slots_from (next_mask r) a)) (sym (read rows k c.index-self-depth.result (omega (arith, v.0, c.requires.deep)))) ∙ sym c.in_default.ensures),
     )

@@ -42,12 +42,12 @@ descend-requires g c =
     let v = c.loop-k.invariant in
     let s = get_or w.path k 0 in
     let small : s < 32 = subst (λ p. Slotted p c.args.last) (sym v.1) c.requires.slots k c.loop-k-test.true in
-    let deep : length w.rows ≡ 33 = omega arith in (
-      omega (arith, v.2, c.requires.last, c.loop-k-test.true),
-      small,
-      ap (λ j. has (next_mask (row_at (models w.rows) j)) s) v.2
-          ∙ has_read w.rows k c.index-self-k.result s _ (omega (arith, deep, c.requires.last, c.loop-k-test.true)) small c.if-not-offers.ensures,
-    )
+    let deep : length w.rows ≡ 33 = omega arith in (record {
+      depth_bound = omega (arith, v.2, c.requires.last, c.loop-k-test.true);
+      slot_bound = small;
+      slot_value = ap (λ j. has (next_mask (row_at (models w.rows) j)) s) v.2
+          ∙ has_read w.rows k c.index-self-k.result s _ (omega (arith, deep, c.requires.last, c.loop-k-test.true)) small c.if-not-offers.ensures;
+    })
 
 pub loop-k-preserved : goal.loop-k-preserved
 loop-k-preserved g c =

@@ -24,7 +24,7 @@ returns g c =
           (g.F.Filter.lawful c.args.filter.now) (g.B.Bank.lawful c.args.bank.now) (lawful_at w.rows k)
           (omega (arith, length-map w.rows model, deep, c.requires.deep)) (omega (arith, long, c.requires.deep)) c.requires.slot c.requires.offered
           (models t.rows) c.descend.ensures.rows t.path c.descend.ensures.path
-          c.shows-plan.result (c.shows-plan.ensures ∙ ap (λ (r : Row). eqb r.decided (length r.opened) && not (dead r)) q);
+          c.shows_plan.result (c.shows_plan.ensures ∙ ap (λ (r : Row). eqb r.decided (length r.opened) && not (dead r)) q);
       depth = c.descend.ensures.depth;
       from = c.descend.ensures.from;
       meaning = c.descend.ensures.meaning;

@@ -13,21 +13,21 @@ loop-child-init g c =
           c.requires.rows c.requires.slots c.requires.deep c.requires.from,
     )
 
-pub next-child-requires : goal.next-child-requires
-next-child-requires g c =
+pub next_child-requires : goal.next_child-requires
+next_child-requires g c =
     let v = c.loop-child.invariant.1 in
     let few : width (models c.args.self.now.rows) ≤ 32 = (lawful_at c.args.self.now.rows 0).few in
     record { deep = omega (arith, v.inside, few); from = v.slot; slots = v.slotted }
 
-pub returns-in-default : goal.returns-in-default
-returns-in-default g c =
+pub returns-in_default : goal.returns-in_default
+returns-in_default g c =
     let w = c.args.self.now in
     let t = c.loop-child.self in
     let f = g.F.Filter.filtered c.args.filter.now (g.B.Bank.meaning c.args.bank.now) in
     let n = width (models w.rows) in
     record {
       walked = finish_done f n (to_come f n (models w.rows) w.path w.depth w.from) c.args.budget (models t.rows) t.path t.depth t.from c.loop-child.visits
-          c.loop-child.invariant.1 (c.in-default.ensures f n);
+          c.loop-child.invariant.1 (c.in_default.ensures f n);
       meaning = c.loop-child.invariant.0;
     }
 
