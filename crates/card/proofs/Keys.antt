@@ -1,8 +1,7 @@
 -- A key that is none of the ten is malformed wherever it stands, and a line has the parts that it is cut into.
-use Rattle.std.proofs.Common.{◌≡◌, ℕ, ◌+◌, ◌-◌, true, false, List, length, take, drop, Some, None, codes, Option, sym, refl, ap, ◌∙◌, ap₂, inl, inr}
+use Rattle.std.proofs.Common.{◌≡◌, ℕ, ◌+◌, ◌-◌, true, false, List, length, take, drop, Some, None, codes, Option, sym, refl, ap, ◌∙◌, inl, inr}
 use Rattle.std.proofs.lemmas.Bool.{cases_Bool}
 use Rattle.network.specs.declared.refusal.Refusal.TheVariants.{Malformed}
-use Rattle.card.specs.declared.value.Value.{Value}
 use Rattle.card.specs.declared.line.Line.{Line}
 use Rattle.card.specs.Verdict.{blocks_due, Cut, cut, Due, end_due, faulty, judge, judge_line, kind_due, nothing_due, open_due, Reading, row_due, rows_due, rule_due, rule_scope_due, rules_due, same_bytes, scope_due, sheets_due}
 use Rattle.card.specs.Kinds.{Keyed, ReadAs}
@@ -31,11 +30,6 @@ unknown_key key value blocks open-key sheets kind scope rows row rules rule end 
     go nothing_due = refl
 
 -- a line that is cut at its equals sign
-pub cut_line : (bs : List ℕ) (i k : ℕ) (key : List ℕ) (v : Value) (l : Option Line) → CutAt 61 bs (Some i) → key ≡ take i bs → v.bytes.now ≡ drop (i + 1) bs → v.line ≡ k → Keyed key v l → ReadAs bs k l
-cut_line bs i k key v (Some l) (_, e) front back number (key-is, value-is) = (
-  ap (λ (c : Cut). c.found) e,
-  key-is ∙ front ∙ sym (ap (λ (c : Cut). c.front) e),
-  ap (λ (w : Value). w.bytes.now) value-is ∙ back ∙ sym (ap (λ (c : Cut). c.back) e),
-  ap (λ (w : Value). w.line) value-is ∙ number,
-)
-cut_line bs i k key v None (_, e) front back number bad = λ r. rw e (ap₂ (λ x y. judge r r.due x y) (sym front) (sym back) ∙ bad r)
+pub cut_line : (bs : List ℕ) (i : ℕ) (l : Option Line) → CutAt 61 bs (Some i) → Keyed (take i bs) (drop (i + 1) bs) l → ReadAs bs l
+cut_line bs i (Some l) (_, e) (k, v) = (ap (λ (c : Cut). c.found) e, k ∙ sym (ap (λ (c : Cut). c.front) e), v ∙ sym (ap (λ (c : Cut). c.back) e))
+cut_line bs i None (_, e) bad = λ r. rw e (bad r)

@@ -12,13 +12,7 @@ pub mod Before
 pub mod Stepping
 pub mod Tupling
 pub mod Solids
-pub mod Adding
-pub mod Growing
-pub mod Putting
 pub mod Judging
-pub mod Filled
-pub mod Turns
-pub mod Stored
 pub mod Passages
 pub mod Accepted
 pub mod Keyed

@@ -7,9 +7,6 @@ pub mod Kinds
 pub mod Words
 pub mod Stages
 pub mod Steps
-pub mod Ends
-pub mod Layout
-pub mod Filling
-pub mod Reads
+pub mod Judgement
 pub mod Sheets
 pub mod Example

@@ -1,13 +1,12 @@
 // A line where it is due.
 ghost use Rattle.card.specs.Kinds.{bytes_of, key_of};
 ghost use Rattle.card.specs.Stages.{Fit, SlotsOnly, stage_of};
-ghost use Rattle.card.specs.Steps.{answered, at_line, line_answered};
+ghost use Rattle.card.specs.Steps.{answered, line_answered};
 ghost use Rattle.card.specs.Verdict.{Reading};
 ghost use Rattle.std.specs.Prelude.{◌≡◌};
 
 use crate::entry::Step;
 use crate::line::Line;
-use crate::refusal::CardRefusal;
 use crate::stage::{Expected, Stage};
 use network::refusal::Refusal;
 
@@ -18,48 +17,37 @@ impl Stage {
         ensures { (q : Reading) → SlotsOnly q.due → self ≡ stage_of q → result ≡ answered q q.due (key_of line.entry) (bytes_of line.entry) }
     {
         match (self.next, line) {
-            (Expected::Blocks, Line::Blocks(value)) => Stage::after_blocks(value.bytes),
-            (Expected::Open(more), Line::Open(value)) => self.after_open(more, value.bytes),
-            (Expected::Sheets, Line::Sheets(value)) => self.after_sheets(value.bytes),
-            (Expected::Kind(more), Line::Kind(value)) => self.after_kind(more, value.bytes),
+            (Expected::Blocks, Line::Blocks(value)) => Stage::after_blocks(value),
+            (Expected::Open(more), Line::Open(value)) => self.after_open(more, value),
+            (Expected::Sheets, Line::Sheets(value)) => self.after_sheets(value),
+            (Expected::Kind(more), Line::Kind(value)) => self.after_kind(more, value),
             (Expected::Scope(more, kind), Line::Scope(value)) => self.after_scope(
-                more,
-                kind,
-                value.bytes,
+                more, kind, value,
             ),
             (Expected::Tuples(more, kind, scope), Line::Tuples(value)) => {
-                self.after_tuples(more, kind, scope, value.bytes)
+                self.after_tuples(more, kind, scope, value)
             }
             (Expected::Tuple(more, arity, left, last), Line::Tuple(value)) => {
-                self.after_tuple(more, arity, left, last, value.bytes)
+                self.after_tuple(more, arity, left, last, value)
             }
-            (Expected::Rules, Line::Rules(value)) => self.after_rules(value.bytes),
-            (Expected::Rule(more), Line::Rule(value)) => self.after_rule(more, value.bytes),
+            (Expected::Rules, Line::Rules(value)) => self.after_rules(value),
+            (Expected::Rule(more), Line::Rule(value)) => self.after_rule(more, value),
             (Expected::RuleScope(more, rule), Line::Scope(value)) => {
-                self.after_rule_scope(more, rule, value.bytes)
+                self.after_rule_scope(more, rule, value)
             }
-            (Expected::End, Line::End(value)) => self.after_end(value.bytes),
+            (Expected::End, Line::End(value)) => self.after_end(value),
             _ => Err(Refusal::Malformed),
         }
     }
 
-    // The step that the bytes before a newline make, in the line of that number.
-    pub(crate) fn step_over(self, bytes: &[u8], number: usize) -> Result<Step, CardRefusal>
+    // The step that the bytes before a newline make.
+    pub(crate) fn step_over(self, bytes: &[u8]) -> Result<Step, Refusal>
         requires { Fit self }
-        ensures { (q : Reading) → SlotsOnly q.due → self ≡ stage_of q → result ≡ at_line number (line_answered q bytes.now) }
+        ensures { (q : Reading) → SlotsOnly q.due → self ≡ stage_of q → result ≡ line_answered q bytes.now }
     {
-        let Some(line) = Line::read(bytes, number) else {
-            return Err(CardRefusal {
-                refusal: Refusal::Malformed,
-                line: number,
-            });
+        let Some(line) = Line::read(bytes) else {
+            return Err(Refusal::Malformed);
         };
-        match self.step(line) {
-            Ok(step) => Ok(step),
-            Err(refusal) => Err(CardRefusal {
-                refusal,
-                line: line.value().line,
-            }),
-        }
+        self.step(line)
     }
 }

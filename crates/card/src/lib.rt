@@ -3,19 +3,13 @@
 
 mod advance;
 mod checks;
-mod counting;
 mod entry;
+mod judge;
 mod line;
 mod list;
 mod number;
 mod place;
-mod put;
-pub mod read;
-mod reader;
-mod reading;
-pub mod refusal;
-pub mod sizes;
+mod refusal;
 mod stage;
 mod step;
-mod value;
 mod word;

@@ -1,80 +1,61 @@
 // The lines of a card: a key, an equals sign and a value.
-ghost use Rattle.card.specs.Kinds.{Keyed, ReadAs, value_in};
-ghost use Rattle.std.specs.Prelude.{◌≡◌};
+ghost use Rattle.card.specs.Kinds.{Keyed, ReadAs};
 
 use crate::place::place_of;
-use crate::value::Value;
 
-// A line by its key, with its value.
+// A line by its key, with the bytes of its value.
 #[derive(Clone, Copy)]
 pub enum Line<'a> {
-    Blocks(Value<'a>),
-    Open(Value<'a>),
-    Sheets(Value<'a>),
-    Kind(Value<'a>),
-    Scope(Value<'a>),
-    Tuples(Value<'a>),
-    Tuple(Value<'a>),
-    Rules(Value<'a>),
-    Rule(Value<'a>),
-    End(Value<'a>),
+    Blocks(&'a [u8]),
+    Open(&'a [u8]),
+    Sheets(&'a [u8]),
+    Kind(&'a [u8]),
+    Scope(&'a [u8]),
+    Tuples(&'a [u8]),
+    Tuple(&'a [u8]),
+    Rules(&'a [u8]),
+    Rule(&'a [u8]),
+    End(&'a [u8]),
 }
 
 impl<'a> Line<'a> {
     // The line with that key, if there is one.
-    fn keyed(key: &[u8], value: Value<'a>) -> Option<Line<'a>>
-        ensures { Keyed key.now value.entry result }
+    fn keyed(key: &[u8], value: &'a [u8]) -> Option<Line<'a>>
+        ensures { Keyed key.now value.now result }
     {
-        if key == b"blocks" {
+        if key == b"blocks".as_slice() {
             Some(Line::Blocks(value))
-        } else if key == b"open" {
+        } else if key == b"open".as_slice() {
             Some(Line::Open(value))
-        } else if key == b"sheets" {
+        } else if key == b"sheets".as_slice() {
             Some(Line::Sheets(value))
-        } else if key == b"kind" {
+        } else if key == b"kind".as_slice() {
             Some(Line::Kind(value))
-        } else if key == b"scope" {
+        } else if key == b"scope".as_slice() {
             Some(Line::Scope(value))
-        } else if key == b"rows" {
+        } else if key == b"rows".as_slice() {
             Some(Line::Tuples(value))
-        } else if key == b"row" {
+        } else if key == b"row".as_slice() {
             Some(Line::Tuple(value))
-        } else if key == b"rules" {
+        } else if key == b"rules".as_slice() {
             Some(Line::Rules(value))
-        } else if key == b"rule" {
+        } else if key == b"rule".as_slice() {
             Some(Line::Rule(value))
-        } else if key == b"end" {
+        } else if key == b"end".as_slice() {
             Some(Line::End(value))
         } else {
             None
         }
     }
 
-    // What the bytes before a newline make, in the line of that number.
-    pub(crate) fn read(bytes: &'a [u8], line: usize) -> Option<Line<'a>>
-        ensures { ReadAs bytes.now line result }
+    // The line that the bytes before a newline make.
+    pub(crate) fn read(bytes: &'a [u8]) -> Option<Line<'a>>
+        ensures { ReadAs bytes.now result }
     {
         let Some(equals) = place_of(bytes, b'=') else {
             return None;
         };
-        let (key, bytes) = (&bytes[0..equals], &bytes[equals + 1..]);
-        Line::keyed(key, Value { bytes, line })
-    }
-
-    pub(crate) fn value(self) -> Value<'a>
-        ensures { result ≡ value_in self.entry }
-    {
-        match self {
-            Line::Blocks(value)
-            | Line::Open(value)
-            | Line::Sheets(value)
-            | Line::Kind(value)
-            | Line::Scope(value)
-            | Line::Tuples(value)
-            | Line::Tuple(value)
-            | Line::Rules(value)
-            | Line::Rule(value)
-            | Line::End(value) => value,
-        }
+        let (key, value) = (&bytes[0..equals], &bytes[equals + 1..]);
+        Line::keyed(key, value)
     }
 }

@@ -9,9 +9,9 @@ use network::refusal::Refusal;
 pub(crate) fn kind_in(value: &[u8]) -> Result<Kind, Refusal>
     ensures { result ≡ kind_read value.now }
 {
-    if value == b"allow" {
+    if value == b"allow".as_slice() {
         Ok(Kind::Allow)
-    } else if value == b"deny" {
+    } else if value == b"deny".as_slice() {
         Ok(Kind::Deny)
     } else {
         Err(Refusal::Malformed)
@@ -21,9 +21,9 @@ pub(crate) fn kind_in(value: &[u8]) -> Result<Kind, Refusal>
 pub(crate) fn rule_in(value: &[u8]) -> Result<Rule, Refusal>
     ensures { result ≡ rule_read value.now }
 {
-    if value == b"notequal" {
+    if value == b"notequal".as_slice() {
         Ok(Rule::NotEqual)
-    } else if value == b"alldiff" {
+    } else if value == b"alldiff".as_slice() {
         Ok(Rule::AllDiff)
     } else {
         Err(Refusal::Malformed)
@@ -33,7 +33,7 @@ pub(crate) fn rule_in(value: &[u8]) -> Result<Rule, Refusal>
 pub(crate) fn net_in(value: &[u8]) -> Result<(), Refusal>
     ensures { result ≡ net_read value.now }
 {
-    if value == b"net" {
+    if value == b"net".as_slice() {
         Ok(())
     } else {
         Err(Refusal::Malformed)

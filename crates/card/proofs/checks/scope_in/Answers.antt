@@ -4,32 +4,32 @@ use Rattle.network.specs.Sheets.{is_distinct}
 use Rattle.card.proofs.Checking.{scope_few, scope_good, scope_many, scope_out, scope_twice}
 use Rattle.card.proofs.checks.scope_in.Goals as goal
 
-pub returns-then-list-lt-MIN-ARITY : goal.returns-then-list-lt-MIN-ARITY
-returns-then-list-lt-MIN-ARITY c =
+pub returns-then-list-lt-MIN_ARITY : goal.returns-then-list-lt-MIN_ARITY
+returns-then-list-lt-MIN_ARITY c =
     let bs = c.args.value.now in
     let l = c.in-Some.list in
     let read = c.in-Some.ensures in
-    elim c.then-list-lt-MIN-ARITY.either [
+    elim c.then-list-lt-MIN_ARITY.either [
       | inl few ↦ scope_few bs l read.1 c.args.blocks (omega arith) read.0 few
       | inr many ↦ scope_many bs l read.1 c.args.blocks (omega arith) read.0 many.1
     ]
 
-pub returns-then-not-all-below : goal.returns-then-not-all-below
-returns-then-not-all-below c =
+pub returns-then-not-all_below : goal.returns-then-not-all_below
+returns-then-not-all_below c =
     let l = c.in-Some.list in
     let read = c.in-Some.ensures in
     let e : l.count - 0 ≡ l.count = omega arith in
     scope_out c.args.value.now l read.1 c.args.blocks (omega arith) read.0 (omega arith) (omega arith)
-    (subst (λ k. false ≡ list_all (λ x. ltb x c.args.blocks) (take k l.numbers)) e c.if-not-all-below.ensures)
+    (subst (λ k. false ≡ list_all (λ x. ltb x c.args.blocks) (take k l.numbers)) e c.if-not-all_below.ensures)
 
-pub returns-then-not-all-distinct : goal.returns-then-not-all-distinct
-returns-then-not-all-distinct c =
+pub returns-then-not-all_distinct : goal.returns-then-not-all_distinct
+returns-then-not-all_distinct c =
     let l = c.in-Some.list in
     let read = c.in-Some.ensures in
     let e : l.count - 0 ≡ l.count = omega arith in
     scope_twice c.args.value.now l read.1 c.args.blocks (omega arith) read.0 (omega arith) (omega arith)
-    (subst (λ k. true ≡ list_all (λ x. ltb x c.args.blocks) (take k l.numbers)) e c.if-not-all-below.ensures)
-    (subst (λ k. false ≡ is_distinct eqb (take k l.numbers)) e c.if-not-all-distinct.ensures)
+    (subst (λ k. true ≡ list_all (λ x. ltb x c.args.blocks) (take k l.numbers)) e c.if-not-all_below.ensures)
+    (subst (λ k. false ≡ is_distinct eqb (take k l.numbers)) e c.if-not-all_distinct.ensures)
 
 pub returns : goal.returns
 returns c =
@@ -37,5 +37,5 @@ returns c =
     let read = c.in-Some.ensures in
     let e : l.count - 0 ≡ l.count = omega arith in
     scope_good c.args.value.now l read.1 c.args.blocks (omega arith) read.0 (omega arith) (omega arith)
-    (subst (λ k. true ≡ list_all (λ x. ltb x c.args.blocks) (take k l.numbers)) e c.if-not-all-below.ensures)
-    (subst (λ k. true ≡ is_distinct eqb (take k l.numbers)) e c.if-not-all-distinct.ensures)
+    (subst (λ k. true ≡ list_all (λ x. ltb x c.args.blocks) (take k l.numbers)) e c.if-not-all_below.ensures)
+    (subst (λ k. true ≡ is_distinct eqb (take k l.numbers)) e c.if-not-all_distinct.ensures)

@@ -9,22 +9,22 @@ returns-then-list-arity c =
     let read = c.in-Some.ensures in
     tuple_other c.args.value.now c.in-Some.list read.1 c.args.arity c.args.last.now c.if-list-arity.true
 
-pub returns-then-not-all-below : goal.returns-then-not-all-below
-returns-then-not-all-below c =
+pub returns-then-not-all_below : goal.returns-then-not-all_below
+returns-then-not-all_below c =
     let l = c.in-Some.list in
     let read = c.in-Some.ensures in
     let e : c.args.arity - 0 ≡ c.args.arity = omega arith in
     tuple_out c.args.value.now l read.1 c.args.arity c.args.last.now read.0 (omega arith) (omega arith)
-    (subst (λ k. false ≡ list_all (λ x. ltb x 32) (take k l.numbers)) e c.if-not-all-below.ensures)
+    (subst (λ k. false ≡ list_all (λ x. ltb x 32) (take k l.numbers)) e c.if-not-all_below.ensures)
 
-pub returns-then-not-comes-before : goal.returns-then-not-comes-before
-returns-then-not-comes-before c =
+pub returns-then-not-comes_before : goal.returns-then-not-comes_before
+returns-then-not-comes_before c =
     let l = c.in-Some.list in
     let read = c.in-Some.ensures in
     let e : c.args.arity - 0 ≡ c.args.arity = omega arith in
     tuple_late c.args.value.now l read.1 c.args.arity c.args.last.now read.0 (omega arith) (omega arith)
-    (subst (λ k. true ≡ list_all (λ x. ltb x 32) (take k l.numbers)) e c.if-not-all-below.ensures)
-    (subst (λ k. false ≡ precedes c.args.last.now (take k l.numbers)) e c.if-not-comes-before.ensures)
+    (subst (λ k. true ≡ list_all (λ x. ltb x 32) (take k l.numbers)) e c.if-not-all_below.ensures)
+    (subst (λ k. false ≡ precedes c.args.last.now (take k l.numbers)) e c.if-not-comes_before.ensures)
 
 pub returns : goal.returns
 returns c =
@@ -32,5 +32,5 @@ returns c =
     let read = c.in-Some.ensures in
     let e : c.args.arity - 0 ≡ c.args.arity = omega arith in
     tuple_good c.args.value.now l read.1 c.args.arity c.args.last.now read.0 (omega arith) (omega arith)
-    (subst (λ k. true ≡ list_all (λ x. ltb x 32) (take k l.numbers)) e c.if-not-all-below.ensures)
-    (subst (λ k. true ≡ precedes c.args.last.now (take k l.numbers)) e c.if-not-comes-before.ensures)
+    (subst (λ k. true ≡ list_all (λ x. ltb x 32) (take k l.numbers)) e c.if-not-all_below.ensures)
+    (subst (λ k. true ≡ precedes c.args.last.now (take k l.numbers)) e c.if-not-comes_before.ensures)

@@ -12,5 +12,5 @@ returns-in-49-to-57 c =
     let bs = c.args.bytes.now in
     let low : 49 ≤ get_or bs 0 0 = search (rules, ltb-false) in
     let high : get_or bs 0 0 < 58 = search (rules, ltb-true) in
-    first_digit bs c.with-digits.result (omega (arith, ltb-false)) low high
-    (subst (λ rest. GoesOn (get_or bs 0 0 - 48) rest c.with-digits.result) (take_rest bs 1) c.with-digits.ensures)
+    first_digit bs c.with_digits.result (omega (arith, ltb-false)) low high
+    (subst (λ rest. GoesOn (get_or bs 0 0 - 48) rest c.with_digits.result) (take_rest bs 1) c.with_digits.ensures)

@@ -6,11 +6,11 @@ use Rattle.card.specs.Verdict.{is_digit, value_from}
 use Rattle.card.proofs.Capped.{digit_byte, high_byte, low_byte, more_digits, more_value, no_digits}
 use Rattle.card.proofs.number.with_digits.Goals as goal
 
-pub returns-in-default : goal.returns-in-default
-returns-in-default c = no_digits c.args.digits.now c.loop-digit.digit-index (omega arith) c.loop-digit.invariant.1 (low_byte (get_or c.args.digits.now c.loop-digit.digit-index 0) (omega arith))
+pub returns-in_default : goal.returns-in_default
+returns-in_default c = no_digits c.args.digits.now c.loop-digit.digit-index (omega arith) c.loop-digit.invariant.1 (low_byte (get_or c.args.digits.now c.loop-digit.digit-index 0) (omega arith))
 
-pub returns-in-default·2 : goal.returns-in-default·2
-returns-in-default·2 c = no_digits c.args.digits.now c.loop-digit.digit-index (omega arith) c.loop-digit.invariant.1 (high_byte (get_or c.args.digits.now c.loop-digit.digit-index 0) (omega arith))
+pub returns-in_default-2 : goal.returns-in_default-2
+returns-in_default-2 c = no_digits c.args.digits.now c.loop-digit.digit-index (omega arith) c.loop-digit.invariant.1 (high_byte (get_or c.args.digits.now c.loop-digit.digit-index 0) (omega arith))
 
 pub loop-digit-preserved : goal.loop-digit-preserved
 loop-digit-preserved c =

@@ -4,12 +4,12 @@ use Rattle.card.specs.Parts.{Numbered}
 use Rattle.card.proofs.Packing.{last_fails, last_more, Seen, seen_fails, seen_more}
 use Rattle.card.proofs.list.NumberList.read.Goals as goal
 
-pub returns-in-default-number : goal.returns-in-default-number
-returns-in-default-number c =
+pub returns-in_default-number : goal.returns-in_default-number
+returns-in_default-number c =
     let rest = c.loop-comma.rest.now in
     let i = c.in-Some.comma in
     let e : i - 0 ≡ i = omega arith in
-    seen_fails c.args.value.now rest c.loop-comma.list i c.in-Some.ensures (subst (λ k. Numbered (take k rest) None) e c.in-default-number.ensures) c.loop-comma.invariant.1
+    seen_fails c.args.value.now rest c.loop-comma.list i c.in-Some.ensures (subst (λ k. Numbered (take k rest) None) e c.in_default-number.ensures) c.loop-comma.invariant.1
 
 pub loop-comma-preserved : goal.loop-comma-preserved
 loop-comma-preserved c =
@@ -25,11 +25,11 @@ loop-comma-preserved c =
       subst (λ bs. Seen value bs c.push.new.self) t s,
     )
 
-pub returns-in-default-number-2 : goal.returns-in-default-number-2
-returns-in-default-number-2 c =
-    last_fails c.args.value.now c.loop-comma.rest.now c.loop-comma.list c.in-default.ensures c.in-default-number-2.ensures c.loop-comma.invariant.1
+pub returns-in_default-number-2 : goal.returns-in_default-number-2
+returns-in_default-number-2 c =
+    last_fails c.args.value.now c.loop-comma.rest.now c.loop-comma.list c.in_default.ensures c.in_default-number-2.ensures c.loop-comma.invariant.1
 
 pub returns : goal.returns
 returns c =
-    last_more c.args.value.now c.loop-comma.rest.now c.loop-comma.list c.push-2.new.self c.in-Some-number-2.last c.in-default.ensures c.in-Some-number-2.ensures
+    last_more c.args.value.now c.loop-comma.rest.now c.loop-comma.list c.push-2.new.self c.in-Some-number-2.last c.in_default.ensures c.in-Some-number-2.ensures
     c.push-2.ensures.held c.loop-comma.invariant.1

@@ -51,7 +51,7 @@ invariant_of-listing c =
       few = s.few;
       sized = pinned_size s.records s.blocks b c.pin_at.new.self k c.pin_at.ensures s.sized;
       lawful =
-        λ p. ∥∥₁_map (s.lawful p) (pinned_lawful s.records s.blocks b c.pin_at.new.self k c.pin_at.ensures s.sized c.if-block-self.false (ltb-true k 32 f.0) f.1);
+          λ p. ∥∥₁_map (s.lawful p) (pinned_lawful s.records s.blocks b c.pin_at.new.self k c.pin_at.ensures s.sized c.if-block-self.false (ltb-true k 32 f.0) f.1);
       deep = omega arith;
       long = refl;
       slots = λ _. omega arith;
