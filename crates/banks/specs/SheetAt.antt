@@ -1,6 +1,6 @@
 -- The sheet of a number in a bank that is made of others.
 use Rattle.std.specs.Prelude.{◌≡◌, ℕ, zero, suc, ◌+◌, ◌-◌, ◌^◌, ◌<◌, ◌≤◌, false, cond, ◌&&◌, List, [], ◌∷◌, ◌++◌, map, length, take, nat_lt, slice_index_or, slice_set, refl}
-use Rattle.std.proofs.Common.{add-suc, arith, inl, inr, ◌∙◌, ap, subst, sym, length-append, length-take}
+use Rattle.std.proofs.Common.{arith, inl, inr, ◌∙◌, ap, subst, sym, length-append, length-take}
 use Rattle.std.proofs.lemmas.List.{length-map}
 use Rattle.std.proofs.lemmas.Bool.{and_left, cases_lt, cond-false, cond-true, le-ltb, lt-ltb}
 use Rattle.network.specs.Sheets.{Sheet, choices, sheet_at, some_pass, supported}

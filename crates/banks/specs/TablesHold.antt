@@ -1,7 +1,6 @@
 -- The verdict on a table's record, and that accepted records make a lawful bank.
-use Rattle.std.specs.Prelude.{◌≡◌, ℕ, ◌+◌, ◌-◌, ◌*◌, ◌<◌, ◌≤◌, Bool, true, false, not, ◌||◌, ltb, List, [], map, length, take, drop, Ok, Err, nat_eq, nat_lt, slice_index_or}
+use Rattle.std.specs.Prelude.{◌≡◌, ℕ, ◌+◌, ◌-◌, ◌*◌, ◌<◌, ◌≤◌, true, false, not, ◌||◌, ltb, List, [], map, length, take, drop, Ok, Err, nat_eq, nat_lt, slice_index_or}
 use Rattle.std.proofs.Common.{arith, ◌∙◌, ap, sym}
-use Rattle.std.specs.List.{list_all}
 use Rattle.std.proofs.lemmas.Bool.{le-ltb, ltb-false, not-false, or_from, or_parts}
 use Rattle.network.specs.Sheets.{is_distinct}
 use Rattle.network.specs.Laws.{LawfulBank, LawfulSheet}

@@ -1,10 +1,10 @@
 -- A number that is cut at 2 ^ 32 after each digit is the number cut at 2 ^ 32, and the forms of a number are told by its first digit.
-use Rattle.std.proofs.Common.{◌≡◌, ℕ, suc, ◌+◌, ◌-◌, ◌*◌, ◌<◌, ◌≤◌, Bool, true, false, ◌&&◌, leb, List, [], ◌∷◌, length, get_or, drop, Some, None, Option, sym, refl, ap, ◌∙◌, subst, zero-add, arith}
+use Rattle.std.proofs.Common.{◌≡◌, ℕ, ◌+◌, ◌-◌, ◌*◌, ◌<◌, ◌≤◌, Bool, true, false, ◌&&◌, leb, List, [], ◌∷◌, length, get_or, drop, Some, None, Option, sym, refl, ap, ◌∙◌, subst, zero-add, arith}
 use Rattle.std.specs.List.{list_all}
 use Rattle.std.proofs.lemmas.List.{at_drop_more}
 use Rattle.std.proofs.lemmas.Bool.{and_from, and_left, and_right, le-leb, lt-leb}
 use Rattle.card.specs.Parts.{capped, GoesOn, Numbered}
-use Rattle.card.specs.Verdict.{is_digit, is_number, value_from, value_of}
+use Rattle.card.specs.Verdict.{is_digit, value_from}
 
 capped_digit : (m d : ℕ) → capped (capped m * 10 + d) ≡ capped (m * 10 + d)
 capped_digit m d = omega arith

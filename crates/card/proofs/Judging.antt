@@ -1,5 +1,5 @@
 -- A card is judged line by line: what has been reached, one line more, and the end.
-use Rattle.std.proofs.Common.{◌≡◌, ℕ, suc, ◌+◌, ◌≤◌, true, false, cond, ◌&&◌, eqb, ltb, List, [], ◌∷◌, length, take, drop, Some, None, Ok, Err, sym, refl, ap, ◌∙◌, subst, add-one, arith, lit≤}
+use Rattle.std.proofs.Common.{◌≡◌, ℕ, suc, ◌+◌, ◌≤◌, true, false, cond, ◌&&◌, eqb, ltb, List, [], ◌∷◌, length, take, drop, Some, None, Ok, Err, sym, refl, ap, ◌∙◌, add-one, arith, lit≤}
 use Rattle.std.proofs.lemmas.Bool.{cond-false, cond-true, le-ltb, ne_eqb}
 use Rattle.network.specs.declared.refusal.Refusal.{Refusal}
 use Rattle.network.specs.declared.refusal.Refusal.TheVariants.{LimitExceeded, Malformed}
@@ -11,7 +11,7 @@ use Rattle.card.specs.Verdict.{blocks_due, cut, Due, end_due, fault, faulty, fin
 use Rattle.card.specs.Parts.{CutAt}
 use Rattle.card.specs.Stages.{expected_of, SlotsOnly, Solid, stage_of}
 use Rattle.card.specs.Steps.{answer, entry_of, line_answered, step_of}
-use Rattle.card.specs.Judgement.{ends, Judges}
+use Rattle.card.specs.Judgement.{ends}
 use Rattle.card.proofs.Tests.{never}
 use Rattle.card.proofs.Cuts.{lines_at, lines_whole}
 use Rattle.card.proofs.Solids.{solid_line}

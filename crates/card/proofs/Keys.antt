@@ -1,9 +1,9 @@
 -- A key that is none of the ten is malformed wherever it stands, and a line has the parts that it is cut into.
-use Rattle.std.proofs.Common.{◌≡◌, ℕ, ◌+◌, ◌-◌, true, false, List, length, take, drop, Some, None, codes, Option, sym, refl, ap, ◌∙◌, inl, inr}
+use Rattle.std.proofs.Common.{◌≡◌, ℕ, ◌+◌, false, List, take, drop, Some, None, codes, Option, sym, refl, ap, ◌∙◌, inl, inr}
 use Rattle.std.proofs.lemmas.Bool.{cases_Bool}
 use Rattle.network.specs.declared.refusal.Refusal.TheVariants.{Malformed}
 use Rattle.card.specs.declared.line.Line.{Line}
-use Rattle.card.specs.Verdict.{blocks_due, Cut, cut, Due, end_due, faulty, judge, judge_line, kind_due, nothing_due, open_due, Reading, row_due, rows_due, rule_due, rule_scope_due, rules_due, same_bytes, scope_due, sheets_due}
+use Rattle.card.specs.Verdict.{blocks_due, Cut, Due, end_due, faulty, judge, kind_due, nothing_due, open_due, Reading, row_due, rows_due, rule_due, rule_scope_due, rules_due, same_bytes, scope_due, sheets_due}
 use Rattle.card.specs.Kinds.{Keyed, ReadAs}
 use Rattle.card.specs.Parts.{CutAt}
 use Rattle.card.proofs.Lines.{same_bytes_true}

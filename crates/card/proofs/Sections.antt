@@ -11,7 +11,7 @@ use Rattle.banks.specs.declared.rule.Rule.{Rule}
 use Rattle.banks.specs.declared.rule.Rule.TheVariants.{NotEqual, AllDiff}
 use Rattle.banks.specs.Tables.{climbs, climbs_from}
 use Rattle.card.specs.Spelling.{Table, RuleSheet, kind_word, rule_word, listed, ScopeWithin, TableWithin}
-use Rattle.card.specs.Verdict.{Due, open_due, sheets_due, kind_due, scope_due, rows_due, rules_due, rule_due, rule_scope_due, end_due, nothing_due, Reading, nothing_read, open_or_sheets, kind_or_rules, rule_or_end, row_or_next, above_last, at, same_bytes}
+use Rattle.card.specs.Verdict.{Due, open_due, sheets_due, kind_due, scope_due, rows_due, rules_due, rule_due, rule_scope_due, end_due, nothing_due, Reading, nothing_read, open_or_sheets, kind_or_rules, rule_or_end, row_or_next, above_last, same_bytes}
 use Rattle.card.proofs.Tests.{never, decides_leb}
 use Rattle.card.proofs.Lines.{same_bytes_true}
 use Rattle.card.proofs.Passages.{Passage, chain, like, within, times, times_each, counted}

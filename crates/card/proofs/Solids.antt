@@ -8,7 +8,7 @@ use Rattle.network.specs.declared.refusal.Refusal.TheVariants.{Malformed}
 use Rattle.banks.specs.declared.table.Kind.{Kind}
 use Rattle.banks.specs.declared.table.Kind.TheVariants.{Allow, Deny}
 use Rattle.banks.specs.declared.rule.Rule.TheVariants.{NotEqual, AllDiff}
-use Rattle.card.specs.Stages.{Fit, FitNext, expected_of, SlotsOnly, Solid, stage_of}
+use Rattle.card.specs.Stages.{FitNext, expected_of, SlotsOnly, Solid}
 use Rattle.card.specs.Verdict.{above_last, add_mask, add_rule, at, blocks_due, Due, end_due, faulty, good, is_number, judge, judge_line, judged, kind_due, kind_or_rules, last_tuple, nothing_due, open_due, open_or_sheets, pieces, Reading, row_due, row_or_next, rows_due, rule_due, rule_or_end, rule_scope_due, rules_due, same_bytes, scope_due, scope_line, sheets_due, value_of}
 use Rattle.card.proofs.Tests.{all_pass_map}
 use Rattle.card.proofs.Keyed.{judge_line_good, judged_good, no_good}

@@ -15,8 +15,8 @@ use Rattle.card.specs.declared.stage.Stage.{Stage}
 use Rattle.card.specs.Checks.{checked, number_checked, tuple_checked}
 use Rattle.card.specs.Lists.{Holds, list_of}
 use Rattle.card.specs.Stages.{stage_of}
-use Rattle.card.specs.Steps.{answer, answered, step_of, step_of_stage}
-use Rattle.card.specs.Verdict.{above_last, is_number, judged, last_tuple, pieces, Reading, row_due, row_or_next, rows_due, value_of}
+use Rattle.card.specs.Steps.{answered, step_of, step_of_stage}
+use Rattle.card.specs.Verdict.{above_last, is_number, last_tuple, pieces, Reading, row_due, row_or_next, rows_due, value_of}
 use Rattle.card.proofs.NumberLists.{pieces_some}
 use Rattle.card.proofs.Checking.{holds_is, packed_front}
 use Rattle.card.proofs.Stepping.{goes, stops}

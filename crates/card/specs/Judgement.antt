@@ -1,5 +1,5 @@
 -- What the judgement of a card answers.
-use Rattle.std.specs.Prelude.{◌≡◌, ℕ, suc, Bool, true, false, Ok, Err, Result}
+use Rattle.std.specs.Prelude.{◌≡◌, Bool, true, false, Ok, Err, Result}
 use Rattle.card.specs.declared.refusal.CardRefusal.{CardRefusal}
 use Rattle.card.specs.declared.stage.Expected.{Expected}
 use Rattle.card.specs.declared.stage.Expected.TheVariants.{Blocks, Open, Sheets, Kind, Scope, Tuples, Tuple, Rules, Rule, RuleScope, End, Nothing}

@@ -1,5 +1,5 @@
 -- The ten kinds of lines: the key of each, and what the bytes of a line are read as.
-use Rattle.std.specs.Prelude.{◌≡◌, ℕ, true, false, List, Some, None, codes, Option}
+use Rattle.std.specs.Prelude.{◌≡◌, ℕ, true, List, Some, None, codes, Option}
 use Rattle.network.specs.declared.refusal.Refusal.TheVariants.{Malformed}
 use Rattle.card.specs.declared.line.Line.{Line}
 use Rattle.card.specs.declared.line.Line.TheVariants.{Blocks, Open, Sheets, Kind, Scope, Tuples, Tuple, Rules, Rule, End}

@@ -1,15 +1,14 @@
 -- Asking a sheet position by position: the row after the first n positions, and where it ends.
-use Rattle.std.proofs.Common.{◌≡◌, ℕ, ◌+◌, ◌<◌, ◌≤◌, Bool, true, false, not, ◌&&◌, ◌||◌, eqb, ltb, leb, List, length, get_or, sym, refl, ap, ◌∙◌, subst, ap₂, inl, inr, arith}
-use Rattle.std.proofs.lemmas.Bool.{and_from, and_parts, both_ways, cases_Bool, cases_eq, cases_lt, eq-eqb, le-leb, le-ltb, leb-true, lt-leb, lt-ltb, ne_eqb, not_from_false, or_cases, or_left, or_right}
+use Rattle.std.proofs.Common.{◌≡◌, ℕ, ◌+◌, ◌<◌, ◌≤◌, Bool, true, not, ◌&&◌, ◌||◌, eqb, ltb, leb, List, length, get_or, sym, ap, ◌∙◌, subst, ap₂, inl, inr, arith}
+use Rattle.std.proofs.lemmas.Bool.{and_from, and_parts, cases_eq, cases_lt, eq-eqb, le-leb, le-ltb, leb-true, lt-leb, lt-ltb, ne_eqb, not_from_false, or_cases, or_left, or_right}
 use Rattle.network.specs.Sheets.{Sheet, has, supported}
 use Rattle.network.specs.Rows.{Row, dead, keep, narrowed_by}
 use Rattle.network.specs.Filters.{place}
 use Rattle.network.specs.Laws.{LawfulRow, Under}
-use Rattle.network.proofs.Fits.{place_at}
 use Rattle.network.proofs.Keeping.{keep_narrows, keeps}
 use Rattle.network.proofs.Narrowing.{narrowed_lawful, narrowed_mono}
 use Rattle.network.proofs.Renarrowing.{narrowed_all, narrowed_same, narrowed_twice, same_dead}
-use Rattle.network.proofs.Rows.{under_dead, under_refl}
+use Rattle.network.proofs.Rows.{under_refl}
 
 module _ (r : Row) (sh : Sheet) (ys : List ℕ) where
   -- the test of the first n positions, by their masks

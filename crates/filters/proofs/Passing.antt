@@ -1,5 +1,5 @@
 -- A pass over the sheets of a set, sheet by sheet, and passes until nothing changes.
-use Rattle.std.proofs.Common.{◌≡◌, ℕ, zero, suc, ◌+◌, ◌<◌, ◌≤◌, Bool, true, false, cond, eqb, ltb, List, [], ◌∷◌, ◌++◌, length, get_or, take, drop, fold, filter, sym, refl, ap, ◌∙◌, subst, inl, inr, arith}
+use Rattle.std.proofs.Common.{◌≡◌, ℕ, zero, suc, ◌+◌, ◌<◌, ◌≤◌, true, false, cond, eqb, ltb, List, [], ◌∷◌, ◌++◌, length, get_or, take, drop, fold, filter, sym, refl, ap, ◌∙◌, subst, inl, inr, arith}
 use Rattle.std.proofs.lemmas.List.Elements.{filter-append, filter_more}
 use Rattle.std.proofs.lemmas.List.{take_all, take-append-drop}
 use Rattle.std.proofs.lemmas.List.Sums.{fold_push}
@@ -8,7 +8,7 @@ use Rattle.network.specs.Sheets.{Sheet, sheet_at}
 use Rattle.network.specs.Rows.{Row, dead, names_current, names_decided, passed_over, undecided_in}
 use Rattle.network.specs.Filters.{fits, narrowed, pass, stabilized, total_slots}
 use Rattle.network.specs.Laws.{LawfulRow, Under}
-use Rattle.network.proofs.Passes.{Sound, fold_lawful, fold_under, narrowed_sound, pass_lawful, pass_under, projected_sound}
+use Rattle.network.proofs.Passes.{Sound, fold_lawful, fold_under, narrowed_sound, pass_lawful, projected_sound}
 use Rattle.network.proofs.Picks.{Picking, current_future_picking, current_one_picking, past_future_picking, picked}
 use Rattle.network.proofs.Renarrowing.{narrowed_still}
 use Rattle.network.proofs.Settling.{row_fewer}

@@ -1,8 +1,8 @@
 -- Only undecided blocks need asking: a slot that an undecided block keeps has a support, which serves the decided slots too.
-use Rattle.std.proofs.Common.{◌≡◌, ℕ, suc, ◌+◌, ◌<◌, ◌≤◌, Bool, true, false, cond, ◌||◌, ltb, leb, List, [], ◌∷◌, map, length, get_or, count_by, sym, refl, ap, ◌∙◌, subst, ap₂, inl, inr, arith}
+use Rattle.std.proofs.Common.{◌≡◌, ℕ, ◌+◌, ◌<◌, ◌≤◌, Bool, true, false, cond, ◌||◌, ltb, leb, List, [], ◌∷◌, length, get_or, count_by, sym, refl, ap, ◌∙◌, subst, ap₂, inl, inr, arith}
 use Rattle.std.proofs.lemmas.List.Sums.{sum_by-cons}
-use Rattle.std.proofs.lemmas.Bool.{cases_eq, cond-false, le-ltb, leb-true, ltb-true, or_cases, or_right}
-use Rattle.network.specs.Sheets.{In, Sheet, Supports, has}
+use Rattle.std.proofs.lemmas.Bool.{cases_eq, le-ltb, leb-true, ltb-true, or_cases, or_right}
+use Rattle.network.specs.Sheets.{In, Sheet, has}
 use Rattle.network.specs.Rows.{Row, narrowed_by, passed_over, passing, some_empty, undecided_in}
 use Rattle.network.specs.Filters.{fits, narrowed, place}
 use Rattle.network.specs.Laws.{LawfulRow, Under}

@@ -8,7 +8,7 @@ use Rattle.network.specs.Rows.{Row, dead, keep, narrowed_by, passed_over, undeci
 use Rattle.network.specs.Filters.{place, total_slots}
 use Rattle.network.specs.Laws.{LawfulBank, LawfulRow, Under}
 use Rattle.network.proofs.Fits.{place_at}
-use Rattle.network.proofs.Keeping.{keep_lawful, keep_narrows, keeps}
+use Rattle.network.proofs.Keeping.{keep_narrows, keeps}
 use Rattle.network.proofs.Masks.{has_mask, mask_below}
 use Rattle.network.proofs.Narrowing.{narrowed_lawful, narrowed_under}
 use Rattle.network.proofs.Picks.{in_row}
@@ -17,7 +17,7 @@ use Rattle.network.proofs.Settling.{row_fewer}
 use Rattle.filters.specs.Effects.{Told}
 use Rattle.filters.specs.Readings.{mask_by, step_by}
 use Rattle.filters.specs.declared.effect.Effect.{Effect}
-use Rattle.filters.specs.declared.effect.Effect.TheVariants.{Died, Narrowed, Unchanged}
+use Rattle.filters.specs.declared.effect.Effect.TheVariants.{Narrowed, Unchanged}
 use Rattle.filters.specs.declared.reading.Reading.{Reading}
 use Rattle.filters.specs.declared.reading.Reading.TheVariants.{Open, Present}
 use Rattle.filters.proofs.Asking.{asked, asked_dead, asked_decided, asked_more, asked_none}

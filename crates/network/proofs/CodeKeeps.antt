@@ -1,12 +1,11 @@
 -- What a row of the code writes when it decides a block, or a block keeps the slots of a mask.
-use Rattle.std.proofs.Common.{◌≡◌, ℕ, zero, suc, ◌+◌, ◌*◌, ◌%◌, ◌^◌, ◌<◌, ◌≤◌, true, false, cond, ◌⊎◌, List, [], ◌∷◌, map, length, get_or, take, set, replicate, sym, refl, ap, ◌∙◌, ap₂, inl, inr, add-one, arith, length-set}
+use Rattle.std.proofs.Common.{◌≡◌, ℕ, zero, suc, ◌+◌, ◌*◌, ◌%◌, ◌^◌, ◌<◌, ◌≤◌, true, false, ◌⊎◌, List, [], ◌∷◌, map, length, get_or, take, set, replicate, sym, refl, ap, ◌∙◌, ap₂, inl, inr, add-one, arith, length-set}
 use lib.Bits.{and_zero_l, bit_and}
-use lib.ListN.{length-map}
 use Rattle.std.proofs.lemmas.Nat.{one_shl}
-use Rattle.std.proofs.lemmas.List.{get_or-replicate, get_or-set_same, get_or-take, length-replicate, set_past, take-replicate}
+use Rattle.std.proofs.lemmas.List.{get_or-set_same, get_or-take, set_past, take-replicate}
 use Rattle.std.proofs.lemmas.Bool.{cases_Bool, cond-true}
 use Rattle.network.specs.Sheets.{has}
-use Rattle.network.specs.Rows.{Row, dead, decide, keep, next_mask, row_of, some_empty, wipe, with_present}
+use Rattle.network.specs.Rows.{decide, keep, next_mask, row_of, some_empty, with_present}
 use Rattle.network.specs.Laws.{LawfulRow}
 use Rattle.network.specs.RowModel.{model}
 use Rattle.network.specs.declared.row.Row.{Row as CodeRow}

@@ -1,5 +1,5 @@
 -- Masks make a lawful row exactly where each block may have its masks.
-use Rattle.std.proofs.Common.{◌≡◌, ℕ, ◌<◌, ◌≤◌, Bool, true, false, cond, not, ◌&&◌, ◌||◌, eqb, ltb, leb, List, length, get_or, take, sym, refl, ap, ◌∙◌, subst, ap₂, inl, inr, arith}
+use Rattle.std.proofs.Common.{◌≡◌, ℕ, ◌<◌, ◌≤◌, Bool, true, false, not, ◌&&◌, ◌||◌, eqb, ltb, leb, List, length, get_or, take, sym, refl, ap, ◌∙◌, subst, ap₂, inl, inr, arith}
 use lib.Bits.{and_le_l, and_zero_l, bit_and}
 use lib.Count.{ones, ones-le}
 use Rattle.std.proofs.lemmas.List.{get_or_past, take_all}
@@ -8,7 +8,7 @@ use Rattle.network.specs.Sheets.{has}
 use Rattle.network.specs.Rows.{row_of}
 use Rattle.network.specs.Laws.{Bounded, LawfulRow}
 use Rattle.network.specs.RowModel.{given, may_have}
-use Rattle.network.proofs.Masks.{has_none, has_not, same_masks}
+use Rattle.network.proofs.Masks.{has_not, same_masks}
 use Rattle.network.proofs.Wiping.{empty_at, some_empty_at}
 use Rattle.network.proofs.MaskBits.{has_and}
 use Rattle.network.proofs.Rows.{slot_live}

@@ -1,15 +1,15 @@
 -- Narrowing a row again: tests that every slot passes, two tests one after the other, rows that are dead.
-use Rattle.std.proofs.Common.{◌≡◌, ℕ, ◌^◌, ◌<◌, Bool, true, false, not, ◌&&◌, ◌||◌, ◌⊎◌, List, length, get_or, set, sym, refl, ap, ◌∙◌, subst, inl, inr, arith, length-set}
+use Rattle.std.proofs.Common.{◌≡◌, ℕ, ◌^◌, ◌<◌, Bool, true, false, not, ◌&&◌, ◌||◌, List, length, get_or, set, sym, refl, ap, ◌∙◌, subst, inl, inr, arith, length-set}
 use lib.Bits.{and_zero_r, bit_and}
 use Rattle.std.proofs.lemmas.List.{ext_get_or, get_or-set_same}
-use Rattle.std.proofs.lemmas.Bool.{and_parts, both_ways, cases_Bool, cases_eq, eq-eqb, or_cases, or_left, or_right}
+use Rattle.std.proofs.lemmas.Bool.{both_ways, eq-eqb}
 use Rattle.network.specs.Sheets.{has}
 use Rattle.network.specs.Rows.{Row, dead, keep, narrowed_by, passing, some_empty, wipe, with_present}
 use Rattle.network.specs.Filters.{total_slots}
 use Rattle.network.specs.Laws.{LawfulRow, Under}
 use Rattle.network.proofs.Masks.{mutual_masks, same_masks}
 use Rattle.network.proofs.Wiping.{some_empty_at, wipe_long, wipe_zero}
-use Rattle.network.proofs.Rows.{same_rows, slot_live, under_dead, under_refl}
+use Rattle.network.proofs.Rows.{same_rows, slot_live, under_refl}
 use Rattle.network.proofs.Narrowing.{narrowed_lawful, narrowed_mono, narrowed_parts, narrowed_under, passing_below, passing_has, passing_long}
 use Rattle.network.proofs.Keeping.{keep_lawful, keep_narrows, keeps, wipe_own}
 use Rattle.network.proofs.Settling.{row_fewer}

@@ -1,5 +1,5 @@
 -- The test `supported` tells whether a tuple supports a slot.
-use Rattle.std.proofs.Common.{◌≡◌, ℕ, ◌^◌, ◌<◌, ◌≤◌, Bool, true, ◌&&◌, ltb, List, [], length, get_or, take, set, sym, ap, ◌∙◌, subst, ap₂, inl, inr, arith, length-set}
+use Rattle.std.proofs.Common.{◌≡◌, ℕ, ◌^◌, ◌<◌, ◌≤◌, Bool, true, ◌&&◌, ltb, List, length, get_or, take, set, sym, ap, ◌∙◌, subst, ap₂, inl, inr, arith, length-set}
 use Rattle.std.proofs.lemmas.List.{get_or-set_other, get_or-set_same, get_or-take, length-take-le}
 use Rattle.std.proofs.lemmas.Bool.{and_from, and_parts, cases_eq, cases_lt, lt-ltb, ltb-true}
 use Rattle.network.specs.Sheets.{Decides, HasSupport, Sheet, Supports, choices, has, sheet_at, some_pass, supported}

@@ -1,10 +1,9 @@
-use Rattle.std.proofs.Common.{◌≡◌, ◌+◌, ◌-◌, ◌*◌, ◌^◌, true, ltb, length, take, drop, set, sym, ap, ◌∙◌, subst, ap₂, ⊎_elim, arith, length-set, rules}
+use Rattle.std.proofs.Common.{◌≡◌, ◌+◌, ◌-◌, ◌*◌, ◌^◌, ltb, take, drop, set, sym, ap, ◌∙◌, ap₂, ⊎_elim, arith}
 use Rattle.std.proofs.lemmas.Bool.{cond-true, lt-ltb}
-use Rattle.std.proofs.lemmas.List.{length-drop, length-take-le}
 use Rattle.network.specs.Sheets.{choices, some_pass}
 use Rattle.banks.specs.Accepted.{blocks_many}
 use Rattle.banks.specs.SheetAt.{unsupported}
-use Rattle.banks.specs.Tables.{allowed_in, climbs, table_sheet, tuples_in}
+use Rattle.banks.specs.Tables.{allowed_in, table_sheet, tuples_in}
 use Rattle.banks.proofs.Seeking.{no_slot, supported_is}
 use Rattle.banks.proofs.table_search.table_supports.Goals as goal
 

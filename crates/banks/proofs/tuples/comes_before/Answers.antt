@@ -1,4 +1,3 @@
-use Rattle.std.proofs.Common.{arith}
 use Rattle.banks.proofs.Tupled.{before_here, before_later, before_never}
 use Rattle.banks.proofs.tuples.comes_before.Goals as goal
 

@@ -1,4 +1,4 @@
-use Rattle.std.proofs.Common.{◌≡◌, Bool, false, [], sym, ap, ◌∙◌, arith}
+use Rattle.std.proofs.Common.{◌≡◌, false, [], sym, ap, ◌∙◌, arith}
 use Rattle.network.specs.Sheets.{Sheet, sheet_at, supported}
 use Rattle.network.proofs.Supports.{bank_decides}
 use Rattle.banks.specs.declared.place.Place.TheVariants.{First, Nowhere, Second}

@@ -1,4 +1,4 @@
-use Rattle.std.proofs.Common.{◌≡◌, ◌<◌, ◌≤◌, true, false, ◌||◌, [], ◌∷◌, length, get_or, take, sym, ap, ◌∙◌, ap₂, arith}
+use Rattle.std.proofs.Common.{◌≡◌, ◌<◌, true, false, ◌||◌, [], ◌∷◌, length, get_or, take, sym, ap, ◌∙◌, ap₂, arith}
 use Rattle.std.proofs.lemmas.List.{take_more}
 use Rattle.network.specs.Sheets.{some_pass}
 use Rattle.banks.specs.Tables.{inside, tuples_in}

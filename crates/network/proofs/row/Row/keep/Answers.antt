@@ -1,6 +1,5 @@
 use Rattle.std.proofs.Common.{sym, subst}
 use Rattle.network.specs.Laws.{LawfulRow}
-use Rattle.network.specs.RowModel.{model}
 use Rattle.network.proofs.CodeKeeps.{kept_none, kept_past, kept_some, lawful_code}
 use Rattle.network.proofs.Keeping.{keep_lawful}
 use Rattle.network.proofs.row.Row.keep.Goals as goal
