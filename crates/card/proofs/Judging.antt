@@ -28,10 +28,10 @@ start card l = (
   cond-false (ltb 32768 (length card)) (fault LimitExceeded 0) (judge_lines nothing_read 1 (lines card).full (lines card).rest) (le-ltb 32768 (length card) l),
 )
 
-next_line : (q : Reading) (k : ℕ) (l : List ℕ) (ls : List (List ℕ)) (rest : List ℕ) (p : Reading) → judge_line q l ≡ good p → judge_lines q k (l ∷ ls) rest ≡ judge_lines p (suc k) ls rest
+pub next_line : (q : Reading) (k : ℕ) (l : List ℕ) (ls : List (List ℕ)) (rest : List ℕ) (p : Reading) → judge_line q l ≡ good p → judge_lines q k (l ∷ ls) rest ≡ judge_lines p (suc k) ls rest
 next_line q k l ls rest p e = ap (λ (j : Judged). elim j as (λ _. Verdict) [ faulty n ↦ fault n k | good p' ↦ judge_lines p' (suc k) ls rest ]) e
 
-bad_line : (q : Reading) (k : ℕ) (l : List ℕ) (ls : List (List ℕ)) (rest : List ℕ) (n : Refusal) → judge_line q l ≡ faulty n → judge_lines q k (l ∷ ls) rest ≡ fault n k
+pub bad_line : (q : Reading) (k : ℕ) (l : List ℕ) (ls : List (List ℕ)) (rest : List ℕ) (n : Refusal) → judge_line q l ≡ faulty n → judge_lines q k (l ∷ ls) rest ≡ fault n k
 bad_line q k l ls rest n e = ap (λ (j : Judged). elim j as (λ _. Verdict) [ faulty n' ↦ fault n' k | good p' ↦ judge_lines p' (suc k) ls rest ]) e
 
 good_answer : (j : Judged) (x : Entry) (r : Step) → Ok r ≡ answer j x → (p : Reading) × (j ≡ good p) × (r.stage ≡ stage_of p)
@@ -45,9 +45,9 @@ bad_answer (good p) x n h = absurd (never cc)
 module _ (card : List ℕ) (s : Stage) (k : ℕ) (rest : List ℕ) where
   pub one_line : (i : ℕ) (r : Step) → CutAt 10 rest (Some i) → ((q : Reading) → SlotsOnly q.due → s ≡ stage_of q → Ok r ≡ line_answered q (take i rest)) →
       Reached card s k rest → Reached card r.stage (k + 1) (drop (i + 1) rest)
-  one_line i r c steps (q, solid, s-is, v) =
+  one_line i r c steps (q, solid, s_is, v) =
       let l = take i rest in
-      let (p, e, stage) = good_answer (judge_line q l) (entry_of q.due (cut 61 l).back) r (steps q solid.slots s-is) in
+      let (p, e, stage) = good_answer (judge_line q l) (entry_of q.due (cut 61 l).back) r (steps q solid.slots s_is) in
       let after = lines (drop (i + 1) rest) in
       let moved : judge_lines q k (lines rest).full (lines rest).rest ≡ judge_lines p (suc k) after.full after.rest =
       ap (λ (ls : Lines). judge_lines q k ls.full ls.rest) (lines_at rest i c) ∙ next_line q k l after.full after.rest p e in
@@ -55,14 +55,14 @@ module _ (card : List ℕ) (s : Stage) (k : ℕ) (rest : List ℕ) where
 
   pub bad : (i : ℕ) (n : Refusal) → CutAt 10 rest (Some i) → ((q : Reading) → SlotsOnly q.due → s ≡ stage_of q → Err n ≡ line_answered q (take i rest)) →
       Reached card s k rest → verdict card ≡ fault n k
-  bad i n c steps (q, solid, s-is, v) =
+  bad i n c steps (q, solid, s_is, v) =
       let l = take i rest in
-      let e = bad_answer (judge_line q l) (entry_of q.due (cut 61 l).back) n (steps q solid.slots s-is) in
+      let e = bad_answer (judge_line q l) (entry_of q.due (cut 61 l).back) n (steps q solid.slots s_is) in
       let after = lines (drop (i + 1) rest) in
       v ∙ ap (λ (ls : Lines). judge_lines q k ls.full ls.rest) (lines_at rest i c) ∙ bad_line q k l after.full after.rest n e
 
 -- the end of the card
-finished : (d : Due) (k : ℕ) (rest : List ℕ) (x : Network) → finish d k rest x ≡ cond (ends (expected_of d) && eqb (length rest) 0) (spelled x) (fault Malformed k)
+pub finished : (d : Due) (k : ℕ) (rest : List ℕ) (x : Network) → finish d k rest x ≡ cond (ends (expected_of d) && eqb (length rest) 0) (spelled x) (fault Malformed k)
 finished nothing_due k [] x = refl
 finished nothing_due k (b ∷ bs) x = sym (cond-false (eqb (length (b ∷ bs)) 0) (spelled x) (fault Malformed k) (ne_eqb (length (b ∷ bs)) 0 (λ e. omega arith)))
 finished blocks_due k rest x = refl
@@ -79,9 +79,9 @@ finished end_due k rest x = refl
 
 module _ (card : List ℕ) (s : Stage) (k : ℕ) (rest : List ℕ) (whole : CutAt 10 rest None) where
   at_end : (r : Reached card s k rest) → verdict card ≡ cond (ends s.next && eqb (length rest) 0) (spelled r.0.net) (fault Malformed k)
-  at_end (q, solid, s-is, v) =
+  at_end (q, solid, s_is, v) =
       v ∙ ap (λ (ls : Lines). judge_lines q k ls.full ls.rest) (lines_whole rest whole) ∙ finished q.due k rest q.net
-      ∙ ap (λ (t : Stage). cond (ends t.next && eqb (length rest) 0) (spelled q.net) (fault Malformed k)) (sym s-is)
+      ∙ ap (λ (t : Stage). cond (ends t.next && eqb (length rest) 0) (spelled q.net) (fault Malformed k)) (sym s_is)
 
   pub good_end : (ends s.next && eqb (length rest) 0) ≡ true → Reached card s k rest → (n : Network) × (verdict card ≡ spelled n)
   good_end e r = (r.0.net, at_end r ∙ cond-true _ _ _ e)

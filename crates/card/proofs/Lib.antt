@@ -13,6 +13,13 @@ pub mod Stepping
 pub mod Tupling
 pub mod Solids
 pub mod Judging
+pub mod Growing
+pub mod Putting
+pub mod Adding
+pub mod Coming
+pub mod Filled
+pub mod Turns
+pub mod Stored
 pub mod Passages
 pub mod Accepted
 pub mod Keyed

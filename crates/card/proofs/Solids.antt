@@ -14,7 +14,7 @@ use Rattle.card.proofs.Tests.{all_pass_map}
 use Rattle.card.proofs.Keyed.{judge_line_good, judged_good, no_good}
 use Rattle.card.proofs.Tupling.{last_push}
 
-abbrev SolidDue : Due → Type 0
+abbrev pub SolidDue : Due → Type 0
 SolidDue d = FitNext (expected_of d) × SlotsOnly d
 
 made : (r : Reading) → r.blocks ≤ 32 → r.tuples ≤ 4096 → SolidDue r.due → Solid r
@@ -38,7 +38,7 @@ row_solid k kind scope zero ts q b t narrow short slots = made _ b t (kind_solid
 row_solid k kind scope (suc j) ts q b t narrow short slots = made _ b t ((narrow, short), slots)
 
 -- the reading after one of two words
-one_of : (a b c : Bool) (x y p : Reading) → cond a (cond b (good x) (cond c (good y) (faulty Malformed))) (faulty Malformed) ≡ good p → (p ≡ x) ⊎ (p ≡ y)
+pub one_of : (a b c : Bool) (x y p : Reading) → cond a (cond b (good x) (cond c (good y) (faulty Malformed))) (faulty Malformed) ≡ good p → (p ≡ x) ⊎ (p ≡ y)
 one_of true true c x y p h = inl cc
 one_of true false true x y p h = inr cc
 one_of true false false x y p h = no_good Malformed p h

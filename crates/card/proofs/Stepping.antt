@@ -35,12 +35,12 @@ goes false b c d v p x w h = absurd (never cc)
 
 -- the stage with another line due
 pub leads : (s : Stage) (q : Reading) (next : Expected) (d : Due) (x : Entry) (r : Step) → r ≡ step_of_stage s next x → s ≡ stage_of q → next ≡ expected_of d → r ≡ step_of (at d q) x
-leads s q next d x r is s-is next-is = is ∙ ap₂ (λ t n. step_of_stage t n x) s-is next-is
+leads s q next d x r is s_is next-is = is ∙ ap₂ (λ t n. step_of_stage t n x) s_is next-is
 
 pub scope_leads : (s : Stage) (q : Reading) (k : ℕ) (kind : Kind) (bs : List ℕ) (scope : NumberList) (r : Step) → s ≡ stage_of q → Ok scope ≡ scope_checked s.blocks bs →
     r ≡ step_of_stage s (Tuples k kind scope) Nothing → Ok r ≡ answered q (scope_due k kind) (codes "scope") bs
-scope_leads s q k kind bs scope r s-is checks is =
+scope_leads s q k kind bs scope r s_is checks is =
     let values = map value_of (pieces bs) in
     let (e, g) = goes (list_all is_number (pieces bs)) (leb 2 (length (pieces bs)) && leb (length (pieces bs)) 6) (list_all (λ p. ltb (value_of p) q.blocks) (pieces bs))
-    (is_distinct eqb values) (list_of values) (at (rows_due k kind values) q) Nothing scope (checks ∙ ap (λ (t : Stage). scope_checked t.blocks bs) s-is) in
-    ap Ok (leads s q (Tuples k kind scope) (rows_due k kind values) Nothing r is s-is (ap (Tuples k kind) e)) ∙ sym g
+    (is_distinct eqb values) (list_of values) (at (rows_due k kind values) q) Nothing scope (checks ∙ ap (λ (t : Stage). scope_checked t.blocks bs) s_is) in
+    ap Ok (leads s q (Tuples k kind scope) (rows_due k kind values) Nothing r is s_is (ap (Tuples k kind) e)) ∙ sym g

@@ -52,13 +52,13 @@ last_before [] bs = before_some (map value_of (pieces bs)) (omega (arith, pieces
 last_before (t ∷ ts) bs = refl
 
 -- the line with the number of tuples
-module _ (s : Stage) (q : Reading) (k : ℕ) (kind : Kind) (blocks bs : List ℕ) (s-is : s ≡ stage_of q) (few : s.tuples ≤ 4096) where
+module _ (s : Stage) (q : Reading) (k : ℕ) (kind : Kind) (blocks bs : List ℕ) (s_is : s ≡ stage_of q) (few : s.tuples ≤ 4096) where
   abbrev grown : Reading
   grown = record { due = q.due; blocks = q.blocks; tuples = q.tuples + value_of bs; net = q.net }
 
   total : number_checked 0 (4096 - s.tuples) bs ≡ checked (is_number bs) (leb (q.tuples + value_of bs) 4096) true true (value_of bs)
   total =
-      ap (λ b. checked (is_number bs) b true true (value_of bs)) (total_limit s.tuples (value_of bs) few ∙ ap (λ (t : Stage). leb (t.tuples + value_of bs) 4096) s-is)
+      ap (λ b. checked (is_number bs) b true true (value_of bs)) (total_limit s.tuples (value_of bs) few ∙ ap (λ (t : Stage). leb (t.tuples + value_of bs) 4096) s_is)
 
   pub tuples_stop : (e : Refusal) → Err e ≡ number_checked 0 (4096 - s.tuples) bs → Err e ≡ answered q (rows_due k kind blocks) (codes "rows") bs
   tuples_stop e h =
@@ -72,15 +72,15 @@ module _ (s : Stage) (q : Reading) (k : ℕ) (kind : Kind) (blocks bs : List ℕ
       let x = Table kind (list_of blocks) v in
       let (e, g) = goes (is_number bs) (leb (q.tuples + v) 4096) true true v (row_or_next k kind blocks v [] grown) x n (h ∙ total) in
       let build : ℕ → ℕ → Expected → Entry → Step = λ b t m y. record { stage = record { next = m; blocks = b; tuples = t }; entry = y } in
-      let sums = ap₂ (λ (t : Stage) m. t.tuples + m) s-is e in
+      let sums = ap₂ (λ (t : Stage) m. t.tuples + m) s_is e in
       let due = next-is kind blocks [] grown (ap (λ (l : NumberList). l.count) scope-is) (holds_is none [] empty) ∙ ap (λ m. (stage_of (row_or_next k kind blocks m [] grown)).next) e in
-      let numbers = ap₂ (λ b t. build b t next (Table kind scope n)) (ap (λ (t : Stage). t.blocks) s-is) sums in
+      let numbers = ap₂ (λ b t. build b t next (Table kind scope n)) (ap (λ (t : Stage). t.blocks) s_is) sums in
       let rest = ap₂ (λ m y. build q.blocks (q.tuples + v) m y) due (ap₂ (λ l m. Table kind l m) scope-is e) in
       ap Ok (is ∙ numbers ∙ rest ∙ row_stage k kind blocks v [] grown x) ∙ sym g
 
 -- the line of a tuple
 module _ (s : Stage) (q : Reading) (k : ℕ) (kind : Kind) (scope : List ℕ) (j : ℕ) (ts : List (List ℕ)) (bs : List ℕ) (arity : ℕ) (last : NumberList)
-    (s-is : s ≡ stage_of q) (arity-is : arity ≡ length scope) (last-is : last ≡ list_of (last_tuple ts)) (slots : list_all (λ x. ltb x 32) (last_tuple ts) ≡ true) (few : last.count ≤ 6) where
+    (s_is : s ≡ stage_of q) (arity-is : arity ≡ length scope) (last-is : last ≡ list_of (last_tuple ts)) (slots : list_all (λ x. ltb x 32) (last_tuple ts) ≡ true) (few : last.count ≤ 6) where
   abbrev values : List ℕ
   values = map value_of (pieces bs)
 
@@ -109,4 +109,4 @@ module _ (s : Stage) (q : Reading) (k : ℕ) (kind : Kind) (scope : List ℕ) (j
       let x = Tuple (list_of values) in
       let (e, g) = goes form true range (above_last ts values) (list_of values) (row_or_next k kind scope j us q) x tuple (h ∙ order) in
       let due = next-is kind scope us q arity-is (e ∙ ap list_of (sym (last_push ts values))) in
-      ap Ok (is ∙ ap (λ t. step_of_stage t next (Tuple tuple)) s-is ∙ ap₂ (λ m y. step_of_stage (stage_of q) m y) due (ap Tuple e) ∙ row_stage k kind scope j us q x) ∙ sym g
+      ap Ok (is ∙ ap (λ t. step_of_stage t next (Tuple tuple)) s_is ∙ ap₂ (λ m y. step_of_stage (stage_of q) m y) due (ap Tuple e) ∙ row_stage k kind scope j us q x) ∙ sym g

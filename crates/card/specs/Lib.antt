@@ -8,5 +8,8 @@ pub mod Words
 pub mod Stages
 pub mod Steps
 pub mod Judgement
+pub mod Layout
+pub mod Filling
+pub mod Reads
 pub mod Sheets
 pub mod Example

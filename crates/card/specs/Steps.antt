@@ -1,6 +1,7 @@
 -- What the code answers for a line: the stage after it and what it adds, or why it is refused.
 use Rattle.std.specs.Prelude.{ℕ, List, map, Ok, Err, Result}
 use Rattle.network.specs.declared.refusal.Refusal.{Refusal}
+use Rattle.card.specs.declared.refusal.CardRefusal.{CardRefusal}
 use Rattle.card.specs.declared.stage.Expected.{Expected}
 use Rattle.card.specs.declared.stage.Stage.{Stage}
 use Rattle.card.specs.declared.entry.Entry.{Entry}
@@ -41,3 +42,8 @@ answered r d key bs = answer (judge r d key bs) (entry_of d bs)
 -- the same of a line's bytes, its equals sign included
 abbrev pub line_answered : Reading → List ℕ → Result Step Refusal
 line_answered r bs = answer (judge_line r bs) (entry_of r.due (cut 61 bs).back)
+
+-- the refusal of a line, with its number
+abbrev pub at_line : ℕ → Result Step Refusal → Result Step CardRefusal
+at_line k (Ok s) = Ok s
+at_line k (Err e) = Err (record { refusal = e; line = k })

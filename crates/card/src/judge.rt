@@ -8,11 +8,11 @@ use crate::refusal::CardRefusal;
 use crate::stage::{Expected, Stage};
 use network::refusal::Refusal;
 
-const MAX_BYTES: usize = 32768;
+pub(crate) const MAX_BYTES: usize = 32768;
 
 impl Stage {
     // Whether the last line has been read.
-    fn is_done(self) -> bool
+    pub(crate) fn is_done(self) -> bool
         ensures { result ≡ ends self.next }
     {
         match self.next {

@@ -3,13 +3,19 @@
 
 mod advance;
 mod checks;
+mod counting;
 mod entry;
 mod judge;
 mod line;
 mod list;
 mod number;
 mod place;
+mod put;
+mod read;
+mod reader;
+mod reading;
 mod refusal;
+mod sizes;
 mod stage;
 mod step;
 mod word;

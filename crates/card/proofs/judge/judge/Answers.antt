@@ -16,7 +16,7 @@ returns-in-Err c =
     let i = c.in-Some.end in
     let e : i - 0 ≡ i = omega arith in
     bad c.args.card.now c.loop-end.stage c.loop-end.line rest i c.in-Err.refusal c.in-Some.ensures
-    (λ q slots s-is. subst (λ n. Err c.in-Err.refusal ≡ line_answered q (take n rest)) e (c.in-Err.ensures q slots s-is)) c.loop-end.invariant.2
+    (λ q slots s_is. subst (λ n. Err c.in-Err.refusal ≡ line_answered q (take n rest)) e (c.in-Err.ensures q slots s_is)) c.loop-end.invariant.2
 
 pub loop-end-preserved : goal.loop-end-preserved
 loop-end-preserved c =
@@ -28,7 +28,7 @@ loop-end-preserved c =
     let e : i - 0 ≡ i = omega arith in
     let t = sym (take_rest rest (i + 1)) in
     let reached : Reached card step.stage (k + 1) (drop (i + 1) rest) = one_line card c.loop-end.stage k rest i step c.in-Some.ensures
-    (λ q slots s-is. subst (λ n. Ok step ≡ line_answered q (take n rest)) e (c.in-Ok.ensures q slots s-is)) c.loop-end.invariant.2 in
+    (λ q slots s_is. subst (λ n. Ok step ≡ line_answered q (take n rest)) e (c.in-Ok.ensures q slots s_is)) c.loop-end.invariant.2 in
     let short : k + 1 + (length rest - (i + 1)) ≤ 32769 = omega (arith, c.in-Some.ensures) in (
       subst (λ bs. k + 1 + length bs ≤ 32769) t (subst (λ n. k + 1 + n ≤ 32769) (sym (length-drop (i + 1) rest)) short),
       subst Fit (sym reached.2) reached.1.fit,

@@ -1,0 +1,54 @@
+// A card read into memory.
+ghost use Rattle.card.specs.Layout.{layout, memory, over, sizes_of};
+ghost use Rattle.card.specs.Reads.{answer_for, fits, judgement, memory_after};
+ghost use Rattle.card.specs.Spelling.{Network};
+ghost use Rattle.card.specs.Verdict.{spelled, verdict};
+ghost use Rattle.std.specs.Prelude.{◌≡◌, ◌≤◌, true, length};
+
+use crate::judge::MAX_BYTES;
+use crate::reader::Reader;
+use crate::refusal::CardRefusal;
+use crate::sizes::Sizes;
+use banks::rule::RuleRecord;
+use banks::table::TableRecord;
+use network::refusal::Refusal;
+
+// What the network takes of each place, if the card is good; otherwise the first faulty line and why.
+fn judge(card: &[u8]) -> Result<Sizes, CardRefusal>
+    ensures { result ≡ judgement (verdict card.now) }
+{
+    if card.len() > MAX_BYTES {
+        return Err(CardRefusal {
+            refusal: Refusal::LimitExceeded,
+            line: 0,
+        });
+    }
+    let mut reader = Reader::new(card);
+    let mut sizes = Sizes::none();
+    while let Some(entry) = reader.next_entry()? {
+        sizes = sizes.with(entry);
+    }
+    Ok(sizes)
+}
+
+// Writes the network that a good card spells, where there is room for it.
+fn fill(
+    card: &[u8],
+    masks: &mut [u32],
+    tables: &mut [TableRecord],
+    cells: &mut [u8],
+    rules: &mut [RuleRecord],
+)
+    requires short { length card.now ≤ 32768 }
+    requires room { (x : Network) × (verdict card.now ≡ spelled x) × (fits (sizes_of (layout x)) (sizes_of (memory masks.old tables.old cells.old rules.old)) ≡ true) }
+    ensures { (x : Network) → verdict card.now ≡ spelled x →
+        memory masks.new tables.new cells.new rules.new
+        ≡ over (layout x) (memory masks.old tables.old cells.old rules.old) }
+{
+    let mut reader = Reader::new(card);
+    let mut filled = Sizes::none();
+    while let Ok(Some(entry)) = reader.next_entry() {
+        entry.put(filled, masks, tables, cells, rules);
+        filled = filled.with(entry);
+    }
+}

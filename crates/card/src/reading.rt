@@ -1,0 +1,60 @@
+// The reading of a card, line by line.
+ghost use Rattle.std.specs.Prelude.{◌≡◌, ℕ, List};
+ghost use Rattle.card.specs.Filling.{At, GoesOn, Ready};
+ghost use Rattle.card.specs.Stages.{stage_of};
+ghost use Rattle.card.specs.Verdict.{Reading, nothing_read};
+
+use crate::entry::Entry;
+use crate::place::place_of;
+use crate::reader::Reader;
+use crate::refusal::CardRefusal;
+use crate::stage::{Expected, Stage};
+use network::refusal::Refusal;
+
+impl<'a> Reader<'a> {
+    pub(crate) fn new(card: &'a [u8]) -> Reader<'a>
+        ensures rest { result.rest.now ≡ card.now }
+        ensures line { result.line ≡ 1 }
+        ensures stage { result.stage ≡ stage_of nothing_read }
+    {
+        Reader {
+            rest: card,
+            line: 1,
+            stage: Stage {
+                next: Expected::Blocks,
+                blocks: 0,
+                tuples: 0,
+            },
+        }
+    }
+
+    // What the next line adds to the network, or nothing where a good card ends.
+    pub(crate) fn next_entry(&mut self) -> Result<Option<Entry>, CardRefusal>
+        requires { Ready self.old }
+        ensures { (card : List ℕ) (q : Reading) → At card self.old q → GoesOn card self.old q self.new result }
+    {
+        let rest = self.rest;
+        let Some(end) = place_of(rest, b'\n') else {
+            if self.stage.is_done() && rest.len() == 0 {
+                return Ok(None);
+            }
+            return Err(CardRefusal {
+                refusal: Refusal::Malformed,
+                line: self.line,
+            });
+        };
+        let step = match self.stage.step_over(&rest[0..end]) {
+            Ok(step) => step,
+            Err(refusal) => {
+                return Err(CardRefusal {
+                    refusal,
+                    line: self.line,
+                });
+            }
+        };
+        self.stage = step.stage;
+        self.rest = &rest[end + 1..];
+        self.line += 1;
+        Ok(Some(step.entry))
+    }
+}

@@ -1,0 +1,9 @@
+// How much of each place is filled, or has room.
+
+#[derive(Clone, Copy)]
+pub struct Sizes {
+    pub masks: usize,
+    pub tables: usize,
+    pub cells: usize,
+    pub rules: usize,
+}
