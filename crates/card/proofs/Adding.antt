@@ -1,5 +1,5 @@
 -- A good line adds its entry to what lies in memory.
-use Rattle.std.proofs.Common.{◌≡◌, ℕ, zero, suc, ◌+◌, ◌^◌, ◌≤◌, Bool, true, false, cond, ◌&&◌, eqb, ltb, leb, List, [], ◌∷◌, ◌++◌, map, length, take, codes, sym, refl, ap, ◌∙◌, subst, ap₂, inl, inr, append_assoc, append-nil, add_assoc, zero-add, arith, length-append}
+use Rattle.std.proofs.Common.{◌≡◌, ℕ, zero, suc, ◌+◌, ◌^◌, ◌≤◌, Bool, true, cond, ◌&&◌, eqb, ltb, leb, List, [], ◌∷◌, ◌++◌, map, length, take, codes, sym, refl, ap, ◌∙◌, subst, ap₂, inl, inr, append-nil, zero-add, arith, length-append}
 use lib.ListN.{length-map}
 use Rattle.std.specs.List.{list_all, flat_map}
 use Rattle.std.proofs.lemmas.List.{flat_map_more, length_push, map_push}
@@ -11,18 +11,17 @@ use Rattle.banks.specs.declared.table.TableRecord.{TableRecord}
 use Rattle.banks.specs.declared.table.Kind.TheVariants.{Allow, Deny}
 use Rattle.banks.specs.declared.rule.RuleRecord.{RuleRecord}
 use Rattle.banks.specs.declared.rule.Rule.TheVariants.{NotEqual, AllDiff}
-use Rattle.card.specs.declared.entry.Entry.{Entry}
-use Rattle.card.specs.declared.entry.Entry.TheVariants.{Mask, Nothing, Rule, Table as TableEntry, Tuple}
+use Rattle.card.specs.declared.entry.Entry.TheVariants.{Table as TableEntry, Tuple}
 use Rattle.card.specs.Filling.{added, FitEntry, memory_at, memory_of}
 use Rattle.card.specs.Layout.{cells_of, Memory, records_from, rule_record, table_record}
 use Rattle.card.specs.Lists.{list_of}
 use Rattle.card.specs.Spelling.{Network, RuleSheet, Table}
 use Rattle.card.specs.Stages.{Solid}
 use Rattle.card.specs.Steps.{entry_of}
-use Rattle.card.specs.Verdict.{above_last, add_mask, add_rule, at, blocks_due, Due, end_due, faulty, good, is_number, judge, judge_line, judged, kind_due, kind_or_rules, nothing_due, open_due, open_or_sheets, pieces, Reading, row_due, row_or_next, rows_due, rule_due, rule_or_end, rule_scope_due, rules_due, same_bytes, scope_due, scope_line, sheets_due, value_of}
+use Rattle.card.specs.Verdict.{above_last, add_mask, add_rule, at, blocks_due, Due, end_due, faulty, good, is_number, judge, judged, kind_due, kind_or_rules, nothing_due, open_due, open_or_sheets, pieces, Reading, row_due, row_or_next, rows_due, rule_due, rule_or_end, rule_scope_due, rules_due, same_bytes, scope_due, scope_line, sheets_due, value_of}
 use Rattle.card.proofs.Tests.{all_pass_map}
 use Rattle.card.proofs.Checking.{packed_front}
-use Rattle.card.proofs.Keyed.{judge_line_good, judged_good, no_good}
+use Rattle.card.proofs.Keyed.{judged_good, no_good}
 use Rattle.card.proofs.Solids.{one_of, SolidDue}
 
 -- the records of tables, one more at the end

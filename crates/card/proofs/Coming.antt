@@ -1,8 +1,7 @@
 -- A card is judged line by line: where the reader stands, one line more, and the end.
-use Rattle.std.proofs.Common.{◌≡◌, ℕ, suc, ◌+◌, ◌<◌, ◌≤◌, Bool, true, false, cond, ◌&&◌, eqb, ltb, ◌⊎◌, List, [], ◌∷◌, length, take, drop, Some, None, Ok, Err, sym, refl, ap, ◌∙◌, subst, ap₂, inl, inr, append-nil, add-one, arith, lit≤, length-drop}
+use Rattle.std.proofs.Common.{◌≡◌, ℕ, ◌+◌, ◌<◌, ◌≤◌, Bool, true, false, cond, ◌&&◌, eqb, ltb, List, ◌∷◌, length, take, drop, Some, None, Ok, Err, sym, refl, ap, ◌∙◌, subst, ap₂, inl, inr, append-nil, add-one, arith, lit≤, length-drop}
 use Rattle.std.specs.List.{flat_map}
-use Rattle.std.proofs.lemmas.Bool.{and_parts, cases_Bool, cond-false, cond-true, eqb-true, le-ltb, ne_eqb}
-use Rattle.network.specs.declared.refusal.Refusal.{Refusal}
+use Rattle.std.proofs.lemmas.Bool.{and_parts, cases_Bool, cond-false, cond-true, le-ltb}
 use Rattle.network.specs.declared.refusal.Refusal.TheVariants.{LimitExceeded, Malformed}
 use Rattle.card.specs.declared.entry.Entry.{Entry}
 use Rattle.card.specs.declared.entry.Step.{Step}
@@ -10,15 +9,15 @@ use Rattle.card.specs.declared.reader.Reader.{Reader}
 use Rattle.card.specs.declared.refusal.CardRefusal.{CardRefusal}
 use Rattle.card.specs.declared.stage.Stage.{Stage}
 use Rattle.card.specs.Judgement.{ends}
-use Rattle.card.specs.Filling.{added, At, FitEntry, Follows, GoesOn, memory_at, memory_of, Ready}
-use Rattle.card.specs.Layout.{cells_of, layout, Memory, records_from, rule_record}
+use Rattle.card.specs.Filling.{added, At, FitEntry, ReadsOn, memory_at, memory_of, Ready}
+use Rattle.card.specs.Layout.{cells_of, layout, records_from}
 use Rattle.card.specs.Parts.{CutAt}
 use Rattle.card.specs.Spelling.{Network}
 use Rattle.card.specs.Stages.{expected_of, Fit, Solid, stage_of}
 use Rattle.card.specs.Steps.{answer, at_line, entry_of, line_answered, step_of}
-use Rattle.card.specs.Verdict.{blocks_due, cut, Due, end_due, fault, faulty, finish, good, judge, judge_line, judge_lines, Judged, kind_due, Lines, lines, nothing_due, nothing_read, open_due, Reading, row_due, rows_due, rule_due, rule_scope_due, rules_due, scope_due, sheets_due, spelled, Verdict, verdict}
+use Rattle.card.specs.Verdict.{blocks_due, cut, Due, end_due, fault, faulty, good, judge, judge_line, judge_lines, Judged, kind_due, Lines, lines, nothing_due, nothing_read, open_due, Reading, row_due, rows_due, rule_due, rule_scope_due, rules_due, scope_due, sheets_due, spelled, verdict}
 use Rattle.card.proofs.Tests.{never}
-use Rattle.card.proofs.Adding.{Adds, line_adds}
+use Rattle.card.proofs.Adding.{line_adds}
 use Rattle.card.proofs.Cuts.{lines_at, lines_whole}
 use Rattle.card.proofs.Judging.{bad_line, finished, next_line}
 use Rattle.card.proofs.Keyed.{no_good}
@@ -69,7 +68,7 @@ module _ (card : List ℕ) (r : Reader) (q : Reading) (stands : At card r q) (i 
   first_line = stands.rest ∙ ap (λ (ls : Lines). judge_lines q r.line ls.full ls.rest) (lines_at r.rest.now i here)
 
   pub one_line : (step : Step) (s : Reader) → Ready r → Ok step ≡ at_line r.line (line_answered q l) → s.stage ≡ step.stage → s.line ≡ r.line + 1 → s.rest.now ≡ drop (i + 1) r.rest.now →
-      GoesOn card r q s (Ok (Some step.entry))
+      ReadsOn card r q s (Ok (Some step.entry))
   one_line step s ready steps stage_is line_is rest_is =
       let (p, e, is) = good_answer r.line (judge_line q l) x step steps in
       let adds = line_adds q p (cut 61 l).front (cut 61 l).back stands.solid (line_parts q p l e) in

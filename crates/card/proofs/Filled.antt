@@ -1,8 +1,7 @@
 -- What a card has spelled so far takes no more room than the network that it spells in the end.
-use Rattle.std.proofs.Common.{◌≡◌, ℕ, suc, ◌+◌, ◌<◌, ◌≤◌, Bool, true, false, cond, ◌&&◌, eqb, leb, List, [], ◌∷◌, ◌++◌, length, take, Some, None, Ok, Err, Option, Result, sym, refl, ap, ◌∙◌, subst, inl, inr, arith, length-append, length-take}
+use Rattle.std.proofs.Common.{◌≡◌, ℕ, suc, ◌≤◌, Bool, true, ◌&&◌, eqb, List, [], ◌∷◌, length, take, Some, None, Ok, Err, Option, Result, sym, refl, ap, ◌∙◌, subst, inl, inr, arith, length-append}
 use Rattle.std.proofs.lemmas.List.{length_push, length-take-le}
 use Rattle.std.proofs.lemmas.Bool.{and_parts, cases_Bool, cond-false, cond-true, leb-true}
-use Rattle.network.specs.declared.refusal.Refusal.{Refusal}
 use Rattle.network.specs.declared.refusal.Refusal.TheVariants.{Malformed}
 use Rattle.card.specs.declared.entry.Entry.{Entry}
 use Rattle.card.specs.declared.entry.Entry.TheVariants.{Mask, Nothing, Rule, Table, Tuple}
@@ -10,13 +9,13 @@ use Rattle.card.specs.declared.reader.Reader.{Reader}
 use Rattle.card.specs.declared.refusal.CardRefusal.{CardRefusal}
 use Rattle.card.specs.declared.sizes.Sizes.{Sizes}
 use Rattle.card.specs.Judgement.{ends}
-use Rattle.card.specs.Filling.{added, At, FitEntry, GoesOn, HasRoom, memory_of}
+use Rattle.card.specs.Filling.{added, At, FitEntry, ReadsOn, HasRoom, memory_of}
 use Rattle.card.specs.Layout.{layout, Memory, sizes_of}
 use Rattle.card.specs.Reads.{fits}
 use Rattle.card.specs.Spelling.{Network}
 use Rattle.card.specs.Stages.{expected_of, Solid}
 use Rattle.card.specs.Steps.{entry_of}
-use Rattle.card.specs.Verdict.{cut, fault, faulty, finish, good, judge_line, judge_lines, Judged, lines, Reading, spelled, Verdict, verdict}
+use Rattle.card.specs.Verdict.{cut, fault, faulty, finish, good, judge_line, judge_lines, Judged, lines, Reading, spelled, verdict}
 use Rattle.card.proofs.Tests.{never}
 use Rattle.card.proofs.Adding.{line_adds}
 use Rattle.card.proofs.Judging.{bad_line, finished, next_line}
@@ -102,13 +101,13 @@ module _ (x : Network) where
     stands_within r q stands = grows (lines r.rest.now).full q r.line (lines r.rest.now).rest stands.solid (sym stands.rest ∙ spells)
 
     -- where no line is left, all of x has been read
-    pub all_read : (r s : Reader) (q : Reading) (o : Result (Option Entry) CardRefusal) → GoesOn card r q s o → ((y : Entry) → o ≡ Ok (Some y) → ⊥) → memory_of q ≡ layout x
+    pub all_read : (r s : Reader) (q : Reading) (o : Result (Option Entry) CardRefusal) → ReadsOn card r q s o → ((y : Entry) → o ≡ Ok (Some y) → ⊥) → memory_of q ≡ layout x
     all_read r s q (Ok (Some y)) goes none = absurd (none y refl)
     all_read r s q (Ok None) goes none = goes.1 ∙ ap layout (same_network q.net x (sym goes.0 ∙ spells))
     all_read r s q (Err e) goes none = absurd (never (let f : fault e.refusal e.line ≡ spelled x = sym goes ∙ spells in cc))
 
     -- there is room for the next entry
-    pub has_room : (r s : Reader) (q : Reading) (y : Entry) (filled room : Sizes) → GoesOn card r q s (Ok (Some y)) → filled ≡ sizes_of (memory_of q) → Within (sizes_of (layout x)) room → HasRoom y filled room
+    pub has_room : (r s : Reader) (q : Reading) (y : Entry) (filled room : Sizes) → ReadsOn card r q s (Ok (Some y)) → filled ≡ sizes_of (memory_of q) → Within (sizes_of (layout x)) room → HasRoom y filled room
     has_room r s q y filled room (fit, _, (p, stands, memory-is)) is within =
         subst (λ (f : Sizes). HasRoom y f room) (sym is)
         (room_for y (memory_of q) room fit (within_trans (subst (λ (m : Memory). Within (sizes_of m) (sizes_of (layout x))) memory-is (stands_within s p stands)) within))

@@ -1,13 +1,12 @@
 -- The sizes of what lies in memory, with one entry more.
-use Rattle.std.proofs.Common.{◌≡◌, ℕ, ◌+◌, ◌≤◌, List, [], ◌∷◌, ◌++◌, length, take, sym, refl, ap, ◌∙◌, subst, ap₂, arith, length-append, length-take}
+use Rattle.std.proofs.Common.{◌≡◌, ℕ, ◌+◌, ◌≤◌, ◌++◌, length, take, sym, ap, ◌∙◌, ap₂, arith, length-append}
 use Rattle.std.proofs.lemmas.List.{length_push, length-take-le}
 use Rattle.banks.specs.declared.rule.Rule.{Rule}
 use Rattle.banks.specs.declared.table.Kind.{Kind}
-use Rattle.card.specs.declared.entry.Entry.{Entry}
-use Rattle.card.specs.declared.entry.Entry.TheVariants.{Mask, Nothing, Rule as RuleEntry, Table, Tuple}
+use Rattle.card.specs.declared.entry.Entry.TheVariants.{Mask, Rule as RuleEntry, Table, Tuple}
 use Rattle.card.specs.declared.list.NumberList.{NumberList}
 use Rattle.card.specs.declared.sizes.Sizes.{Sizes}
-use Rattle.card.specs.Filling.{added, Few}
+use Rattle.card.specs.Filling.{added}
 use Rattle.card.specs.Layout.{Memory, sizes_of}
 
 module _ (s : Sizes) (m : Memory) (is : s ≡ sizes_of m) where

@@ -1,5 +1,5 @@
 -- One entry more in memory, written where what is filled ends.
-use Rattle.std.proofs.Common.{◌≡◌, ℕ, ◌+◌, ◌-◌, ◌<◌, ◌≤◌, List, [], ◌∷◌, ◌++◌, length, get_or, take, drop, set, sym, refl, ap, ◌∙◌, subst, ap₂, append_assoc, arith, length-append, length-drop}
+use Rattle.std.proofs.Common.{◌≡◌, ℕ, ◌+◌, ◌-◌, ◌<◌, ◌≤◌, List, [], ◌∷◌, ◌++◌, length, get_or, take, drop, set, sym, ap, ◌∙◌, subst, ap₂, append_assoc, arith, length-append, length-drop}
 use borrow.Rule.Slice.PartMut.{put_mid}
 use lib.Seq.{paste}
 use Rattle.std.proofs.lemmas.List.{drop_at, drop-drop, drop_more, length_push, length-take-le, set_at, take_all, take_at}
@@ -9,7 +9,7 @@ use Rattle.banks.specs.declared.rule.RuleRecord.{RuleRecord}
 use Rattle.banks.specs.declared.table.Kind.{Kind}
 use Rattle.banks.specs.declared.table.TableRecord.{TableRecord}
 use Rattle.card.specs.declared.entry.Entry.{Entry}
-use Rattle.card.specs.declared.entry.Entry.TheVariants.{Mask, Nothing, Rule as RuleEntry, Table, Tuple}
+use Rattle.card.specs.declared.entry.Entry.TheVariants.{Mask, Rule as RuleEntry, Table, Tuple}
 use Rattle.card.specs.declared.list.NumberList.{NumberList}
 use Rattle.card.specs.declared.sizes.Sizes.{Sizes}
 use Rattle.card.specs.Filling.{added, HasRoom}

@@ -1,21 +1,19 @@
 -- A network that lies in memory passes the checks of its records, and means its sheets.
-use Rattle.std.proofs.Common.{◌≡◌, ℕ, zero, suc, ◌+◌, ◌*◌, ◌<◌, ◌≤◌, Bool, true, false, cond, not, ◌&&◌, ◌||◌, eqb, ltb, leb, List, [], ◌∷◌, ◌++◌, map, length, take, drop, Ok, Err, sum_by, sym, refl, ap, ◌∙◌, subst, ap₂, append_assoc, append-nil, suc-mul, zero-mul, arith, length-append}
-use lib.ListN.{length-map}
+use Rattle.std.proofs.Common.{◌≡◌, ℕ, ◌+◌, ◌*◌, ◌<◌, ◌≤◌, Bool, true, false, not, ltb, leb, List, [], ◌∷◌, ◌++◌, map, length, take, drop, Ok, sym, refl, ap, ◌∙◌, ap₂, append_assoc, suc-mul, zero-mul, arith, length-append}
 use Rattle.std.specs.List.{list_all, flat_map, AllByRecursion as All}
-use Rattle.std.proofs.lemmas.List.{drop_at, take_all, take_at}
-use Rattle.std.proofs.lemmas.Bool.{and_from, and_parts, cond-true, le-ltb, lt-leb, lt-ltb, or_from}
-use Rattle.network.specs.Sheets.{is_distinct, Sheet, some_pass}
+use Rattle.std.proofs.lemmas.List.{drop_at, take_at}
+use Rattle.std.proofs.lemmas.Bool.{and_from, lt-leb, lt-ltb, or_from}
+use Rattle.network.specs.Sheets.{Sheet, some_pass}
 use Rattle.banks.specs.declared.table.TableRecord.{TableRecord}
-use Rattle.banks.specs.declared.rule.RuleRecord.{RuleRecord}
 use Rattle.banks.specs.Accepted.{blocks_front, well_sized}
-use Rattle.banks.specs.Tables.{allowed_in, climbs, table_cells, table_scope, table_sheet, table_verdict, tables_meaning, tables_verdict, tuples_in, tuples_of}
+use Rattle.banks.specs.Tables.{allowed_in, climbs, table_cells, table_scope, table_sheet, table_verdict, tuples_in}
 use Rattle.banks.specs.TablesHold.{table_fine}
-use Rattle.banks.specs.Rules.{rule_scope, rule_sheet, rule_verdict, rules_meaning, rules_verdict}
-use Rattle.banks.specs.Verdicts.{accepts, first_blocks, first_of, ill_sized, on_first, on_records, out_of_range, refused_if, Verdict}
-use Rattle.card.specs.Layout.{cells_of, layout, records_from, rule_record, table_record}
+use Rattle.banks.specs.Rules.{rule_sheet, rule_verdict}
+use Rattle.banks.specs.Verdicts.{first_blocks, first_of, on_first, out_of_range}
+use Rattle.card.specs.Layout.{cells_of, records_from, rule_record, table_record}
 use Rattle.card.specs.Lists.{packed}
 use Rattle.card.specs.Sheets.{sheet_of_rule, sheet_of_table}
-use Rattle.card.specs.Spelling.{Network, RuleSheet, ScopeWithin, Table, TableWithin}
+use Rattle.card.specs.Spelling.{RuleSheet, ScopeWithin, Table, TableWithin}
 use Rattle.card.proofs.Tests.{all_pass_append}
 use Rattle.card.proofs.Checking.{packed_front}
 

@@ -3,7 +3,7 @@ use Rattle.std.proofs.Common.{◌≡◌, ℕ, ◌+◌, List, Some, Ok, sym, ap, 
 use Rattle.card.specs.declared.entry.Entry.{Entry}
 use Rattle.card.specs.declared.reader.Reader.{Reader}
 use Rattle.card.specs.declared.sizes.Sizes.{Sizes}
-use Rattle.card.specs.Filling.{added, At, Few, GoesOn, memory_of, Ready}
+use Rattle.card.specs.Filling.{added, At, Few, ReadsOn, memory_of, Ready}
 use Rattle.card.specs.Layout.{Memory, sizes_of}
 use Rattle.card.specs.Verdict.{nothing_read, Reading}
 
@@ -29,7 +29,7 @@ few_enough c =
     let h = c.ready.short in
     record { masks = omega arith; tables = omega arith; cells = omega arith; rules = omega arith }
 
-module _ {card : List ℕ} {r : Reader} {q : Reading} {old : Sizes} (c : Counted card r q old) (s : Reader) (x : Entry) (new : Sizes) (goes : GoesOn card r q s (Ok (Some x)))
+module _ {card : List ℕ} {r : Reader} {q : Reading} {old : Sizes} (c : Counted card r q old) (s : Reader) (x : Entry) (new : Sizes) (goes : ReadsOn card r q s (Ok (Some x)))
     (few : (n : ℕ) → Few n old → Few (n + 1) new) (sizes : (m : Memory) → old ≡ sizes_of m → new ≡ sizes_of (added x m)) where
   pub later_counted : Counted card s goes.2.0 new
   later_counted = record {

@@ -111,7 +111,7 @@ pub record Follows (r s : Reader) : Type 0 where
   pub less : length s.rest.now < length r.rest.now
 
 -- one line more, the end of a good card, or the refusal
-abbrev pub GoesOn : List ℕ → Reader → Reading → Reader → Result (Option Entry) CardRefusal → Type 0
-GoesOn card r q s (Ok (Some x)) = FitEntry x × Follows r s × ((p : Reading) × At card s p × (memory_of p ≡ added x (memory_of q)))
-GoesOn card r q s (Ok None) = (verdict card ≡ spelled q.net) × (memory_of q ≡ layout q.net)
-GoesOn card r q s (Err e) = verdict card ≡ fault e.refusal e.line
+abbrev pub ReadsOn : List ℕ → Reader → Reading → Reader → Result (Option Entry) CardRefusal → Type 0
+ReadsOn card r q s (Ok (Some x)) = FitEntry x × Follows r s × ((p : Reading) × At card s p × (memory_of p ≡ added x (memory_of q)))
+ReadsOn card r q s (Ok None) = (verdict card ≡ spelled q.net) × (memory_of q ≡ layout q.net)
+ReadsOn card r q s (Err e) = verdict card ≡ fault e.refusal e.line

@@ -1,5 +1,5 @@
 -- What reading a card answers, what it leaves in memory, and what that memory means.
-use Rattle.std.specs.Prelude.{◌≡◌, ℕ, ◌≤◌, Bool, true, false, cond, ◌&&◌, List, length, take, Ok, Err, Result, nat_le}
+use Rattle.std.specs.Prelude.{◌≡◌, ℕ, ◌≤◌, Bool, false, cond, ◌&&◌, List, length, take, Ok, Err, Result, nat_le}
 use Rattle.network.specs.Sheets.{some_pass}
 use Rattle.network.specs.declared.refusal.Refusal.TheVariants.{PlaceTooShort}
 use Rattle.banks.specs.Both.{both}

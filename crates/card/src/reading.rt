@@ -1,6 +1,6 @@
 // The reading of a card, line by line.
 ghost use Rattle.std.specs.Prelude.{◌≡◌, ℕ, List};
-ghost use Rattle.card.specs.Filling.{At, GoesOn, Ready};
+ghost use Rattle.card.specs.Filling.{At, ReadsOn, Ready};
 ghost use Rattle.card.specs.Stages.{stage_of};
 ghost use Rattle.card.specs.Verdict.{Reading, nothing_read};
 
@@ -31,7 +31,7 @@ impl<'a> Reader<'a> {
     // What the next line adds to the network, or nothing where a good card ends.
     pub(crate) fn next_entry(&mut self) -> Result<Option<Entry>, CardRefusal>
         requires { Ready self.old }
-        ensures { (card : List ℕ) (q : Reading) → At card self.old q → GoesOn card self.old q self.new result }
+        ensures { (card : List ℕ) (q : Reading) → At card self.old q → ReadsOn card self.old q self.new result }
     {
         let rest = self.rest;
         let Some(end) = place_of(rest, b'\n') else {

@@ -1,7 +1,7 @@
 use Rattle.std.proofs.Common.{◌≡◌, Some, Ok, Option, Result, sym, ap, ◌∙◌, subst, arith}
 use Rattle.card.specs.declared.entry.Entry.{Entry}
 use Rattle.card.specs.declared.refusal.CardRefusal.{CardRefusal}
-use Rattle.card.specs.Filling.{GoesOn}
+use Rattle.card.specs.Filling.{ReadsOn}
 use Rattle.card.specs.Layout.{layout, Memory, memory, over, sizes_of}
 use Rattle.card.proofs.Filled.{fits_within, has_room, Within}
 use Rattle.card.proofs.Turns.{later_counted}
@@ -15,7 +15,7 @@ put-requires c =
     let (q, counted, _) = c.loop-entry.invariant in
     let (x, spells, fit) = c.requires.room in
     let is : c.next_entry.result ≡ Ok (Some c.in-Ok-Some.entry) = cc in
-    let goes = subst (λ (o : Result (Option Entry) CardRefusal). GoesOn card c.loop-entry.reader q s o) is (c.next_entry.ensures card q counted.stands) in
+    let goes = subst (λ (o : Result (Option Entry) CardRefusal). ReadsOn card c.loop-entry.reader q s o) is (c.next_entry.ensures card q counted.stands) in
     let within = fits_within (sizes_of (layout x)) _ fit in
     let kept : Within (sizes_of (layout x)) (sizes_of (memory c.loop-entry.masks c.loop-entry.tables c.loop-entry.cells c.loop-entry.rules)) =
     record { masks = omega arith; tables = omega arith; cells = omega arith; rules = omega arith } in
@@ -27,7 +27,7 @@ loop-entry-preserved c =
     let s = c.next_entry.new.self in
     let (q, counted, held) = c.loop-entry.invariant in
     let is : c.next_entry.result ≡ Ok (Some c.in-Ok-Some.entry) = cc in
-    let goes = subst (λ (o : Result (Option Entry) CardRefusal). GoesOn card c.loop-entry.reader q s o) is (c.next_entry.ensures card q counted.stands) in
+    let goes = subst (λ (o : Result (Option Entry) CardRefusal). ReadsOn card c.loop-entry.reader q s o) is (c.next_entry.ensures card q counted.stands) in
     let old = memory c.args.masks.now c.args.tables.now c.args.cells.now c.args.rules.now in (
       goes.2.0,
       later_counted counted s c.in-Ok-Some.entry c.with-filled.result goes c.with-filled.ensures.few c.with-filled.ensures.sizes,

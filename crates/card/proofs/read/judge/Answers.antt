@@ -1,6 +1,6 @@
 use Rattle.std.proofs.Common.{Ok, Option, subst}
 use Rattle.card.specs.declared.entry.Entry.{Entry}
-use Rattle.card.specs.Filling.{GoesOn}
+use Rattle.card.specs.Filling.{ReadsOn}
 use Rattle.card.specs.Verdict.{nothing_read}
 use Rattle.card.proofs.Coming.{first_at, first_ready}
 use Rattle.card.proofs.Turns.{first_counted, later_counted}
@@ -23,5 +23,5 @@ loop-entry-preserved c =
     let s = c.next_entry.new.self in
     let x = c.in-Some.entry in
     let (q, counted) = c.loop-entry.invariant in
-    let goes = subst (λ (o : Option Entry). GoesOn card r q s (Ok o)) c.in-Some.is (c.in_ok-entry.ensures card q counted.stands) in
+    let goes = subst (λ (o : Option Entry). ReadsOn card r q s (Ok o)) c.in-Some.is (c.in_ok-entry.ensures card q counted.stands) in
     (goes.2.0, later_counted counted s x c.with-sizes.result goes c.with-sizes.ensures.few c.with-sizes.ensures.sizes)
