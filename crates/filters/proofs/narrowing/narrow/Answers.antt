@@ -14,7 +14,7 @@ pub loop-p-preserved-then-block-decided : goal.loop-p-preserved-then-block-decid
 loop-p-preserved-then-block-decided g c =
     walked_decided (g.B.Bank.meaning c.args.bank.now) (g.B.Bank.lawful c.args.bank.now) c.args.c c.masks-masks.result (model c.args.row.now)
     (lawful_code c.args.row.now) c.loop-p.p (omega (arith, c.arity-p-end.ensures, c.loop-p-test.true)) c.loop-p.invariant
-    (omega (arith, c.block-block.ensures, c.decided.ensures, c.if-block-decided.true))
+    (omega (arith, c.block-block.ensures, c.decided.ensures))
 
 pub returns-then-left-eq0 : goal.returns-then-left-eq0
 returns-then-left-eq0 g c =
@@ -24,7 +24,7 @@ returns-then-left-eq0 g c =
     let q = model c.loop-p.row in
     let left = c.supported_slots-left.result in
     let d = walked_died m (g.B.Bank.lawful c.args.bank.now) c.args.c c.masks-masks.result (model c.args.row.now) (lawful_code c.args.row.now) n
-    (omega (arith, c.arity-p-end.ensures, c.loop-p-test.true)) c.loop-p.invariant (omega (arith, c.block-block.ensures, c.decided.ensures, c.if-block-decided.false)) left
+    (omega (arith, c.arity-p-end.ensures, c.loop-p-test.true)) c.loop-p.invariant (omega (arith, c.block-block.ensures, c.decided.ensures)) left
     (left_read sh c.masks-masks.result q n c.block-block.result c.present_mask-mask.result left c.block-block.ensures c.present_mask-mask.ensures c.supported_slots-left.ensures)
     c.args.reading c.masks-masks.ensures c.requires.inside c.requires.future c.if-left-eq0.true in
     let e = c.keep.ensures ∙ ap (λ b. keep q b left) c.block-block.ensures in
@@ -41,7 +41,7 @@ loop-p-preserved g c =
     let q = model c.loop-p.row in
     let left = c.supported_slots-left.result in
     let l : n < length sh.scope = omega (arith, c.arity-p-end.ensures, c.loop-p-test.true) in
-    let u : q.decided ≤ get_or sh.scope n 255 = omega (arith, c.block-block.ensures, c.decided.ensures, c.if-block-decided.false) in
+    let u : q.decided ≤ get_or sh.scope n 255 = omega (arith, c.block-block.ensures, c.decided.ensures) in
     let e = left_read sh masks q n c.block-block.result c.present_mask-mask.result left c.block-block.ensures c.present_mask-mask.ensures c.supported_slots-left.ensures in
     let k = mask_read sh q n c.block-block.result c.present_mask-mask.result c.block-block.ensures c.present_mask-mask.ensures in
     elim c.if-left-mask.branch [
