@@ -1,6 +1,6 @@
 -- A line is good exactly when it has the due key and spells a value within the limits: for any key and value, and for numbers, lists and words.
 use Rattle.std.proofs.Common.{◌≡◌, ℕ, ◌^◌, ◌<◌, Bool, true, false, cond, ◌&&◌, ◌||◌, ◌⊎◌, List, [], ◌∷◌, ◌++◌, length, decimal, Decides, sym, refl, ap, ◌∙◌, subst, inl, inr}
-use Rattle.std.specs.List.{list_all, AllByRecursion as All}
+use Rattle.std.specs.List.{list_all, AllByRecursion}
 use Rattle.std.proofs.lemmas.Bool.{and_parts, and_from, cases_Bool, true≢false}
 use Rattle.network.specs.declared.refusal.Refusal.{Refusal}
 use Rattle.network.specs.declared.refusal.Refusal.TheVariants.{LimitExceeded, Malformed, OutOfRange, Repeated}
@@ -84,7 +84,7 @@ module _ (r : Reading) (some : r.due ≡ nothing_due → ⊥) (key : List ℕ) (
       ((k bs : List ℕ) → judge r r.due k bs ≡ judged (same_bytes k key && form bs) (limit bs) (range bs) (order bs) (next (values_of bs))) →
       ((bs : List ℕ) → form bs ≡ true → limit bs ≡ true → range bs ≡ true → order bs ≡ true → (list_all is_number (pieces bs) ≡ true) × L (values_of bs)) →
       ((bs : List ℕ) → list_all is_number (pieces bs) ≡ true → L (values_of bs) → (form bs ≡ true) × (limit bs ≡ true) × (range bs ≡ true) × (order bs ≡ true)) →
-      ((xs : List ℕ) → L xs → (0 < length xs) × All (λ x. x < 2 ^ 64) xs) → Passage r L (with_key key listed) next
+      ((xs : List ℕ) → L xs → (0 < length xs) × AllByRecursion (λ x. x < 2 ^ 64) xs) → Passage r L (with_key key listed) next
   numbered_list {L} form limit range order is tells passes fine = keyed form limit range order values_of listed is
       (λ bs a b c d. let (n, h) = tells bs a b c d in (h, sym (listed_values_of bs n (fine (values_of bs) h).1)))
       (λ xs h.

@@ -1,7 +1,7 @@
 -- A scope's line and a row's line are good exactly when they spell a scope and a tuple within the limits.
 use Rattle.std.proofs.Common.{◌≡◌, ℕ, zero, suc, ◌<◌, ◌≤◌, Bool, true, ◌&&◌, eqb, ltb, leb, List, [], ◌∷◌, ◌++◌, length, codes, Decides, sym, refl, ◌∙◌, arith}
 use lib.ListN.{length-map}
-use Rattle.std.specs.List.{list_all, AllByRecursion as All}
+use Rattle.std.specs.List.{list_all, AllByRecursion}
 use Rattle.std.proofs.ByRecursion.{All-weaker, Decides-by_and}
 use Rattle.std.proofs.lemmas.Bool.{and_parts, and_from, leb-true, le-leb, eqb-true, eq-eqb}
 use Rattle.std.proofs.lemmas.Bool.Decides.{Decides-at}
@@ -15,7 +15,7 @@ use Rattle.card.proofs.Passages.{Passage}
 use Rattle.card.proofs.Keyed.{with_key, numbered_list}
 
 -- a test of each piece's number tells of each number
-pieces_pass : (p : ℕ → Bool) (P : ℕ → Type 0) → ((n : ℕ) → Decides (p n) (P n)) → (bs : List ℕ) → Decides (list_all (λ q. p (value_of q)) (pieces bs)) (All P (values_of bs))
+pieces_pass : (p : ℕ → Bool) (P : ℕ → Type 0) → ((n : ℕ) → Decides (p n) (P n)) → (bs : List ℕ) → Decides (list_all (λ q. p (value_of q)) (pieces bs)) (AllByRecursion P (values_of bs))
 pieces_pass p P each bs = Decides-at _ _ (all_pass_map p value_of (pieces bs)) (Decides-by_and p P (list_all p) each refl (λ _ _. refl) (values_of bs))
 
 -- a scope's line
@@ -34,12 +34,12 @@ scoped r some small is = numbered_list r some (codes "scope") (refl, refl)
     (a, and_from _ _ (le-leb _ _ (rw e at h.low)) (le-leb _ _ (rw e at h.high)), (below bs).1 h.blocks, h.apart))
     (λ xs h. (omega arith, All-weaker _ _ (λ x k. omega arith) xs h.blocks))
   where
-    below : (bs : List ℕ) → Decides (list_all (λ p. ltb (value_of p) r.blocks) (pieces bs)) (All (λ b. b < r.blocks) (values_of bs))
+    below : (bs : List ℕ) → Decides (list_all (λ p. ltb (value_of p) r.blocks) (pieces bs)) (AllByRecursion (λ b. b < r.blocks) (values_of bs))
     below = pieces_pass (λ n. ltb n r.blocks) (λ n. n < r.blocks) (λ n. decides_leb (suc n) r.blocks)
 
 -- a row's line: a slot for each block of the scope, and above the row before it
 pub rowed : (r : Reading) (k : ℕ) (kind : Kind) (scope : List ℕ) (j : ℕ) (ts : List (List ℕ)) → 2 ≤ length scope →
-    Passage (at (row_due k kind scope j ts) r) (λ u. ((length u ≡ length scope) × All (λ s. s < 32) u) × (above_last ts u ≡ true)) (with_key (codes "row") listed)
+    Passage (at (row_due k kind scope j ts) r) (λ u. ((length u ≡ length scope) × AllByRecursion (λ s. s < 32) u) × (above_last ts u ≡ true)) (with_key (codes "row") listed)
     (λ u. row_or_next k kind scope j (ts ++ (u ∷ [])) r)
 rowed r k kind scope j ts two = numbered_list _ (λ e. never cc) (codes "row") (refl, refl)
     (λ bs. list_all is_number (pieces bs) && eqb (length (pieces bs)) (length scope)) (λ _. true)
@@ -50,7 +50,7 @@ rowed r k kind scope j ts two = numbered_list _ (λ e. never cc) (codes "row") (
     (λ bs n h. (and_from _ _ n (eq-eqb _ _ (sym (length-map (pieces bs) value_of) ∙ h.0.0)), refl, (upto bs).1 h.0.1, h.1))
     (λ xs h. (omega arith, All-weaker _ _ (λ x s. omega arith) xs h.0.1))
   where
-    upto : (bs : List ℕ) → Decides (list_all (λ p. ltb (value_of p) 32) (pieces bs)) (All (λ s. s < 32) (values_of bs))
+    upto : (bs : List ℕ) → Decides (list_all (λ p. ltb (value_of p) 32) (pieces bs)) (AllByRecursion (λ s. s < 32) (values_of bs))
     upto = pieces_pass (λ n. ltb n 32) (λ n. n < 32) (λ n. decides_leb (suc n) 32)
 
     same : (i : ℕ) (us : List (List ℕ)) → row_or_next k kind scope i us (at (row_due k kind scope j ts) r) ≡ row_or_next k kind scope i us r

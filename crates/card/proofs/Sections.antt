@@ -1,6 +1,6 @@
 -- The sections of a card: the masks, the tables, the rules and the end, each with the passage that it makes.
 use Rattle.std.proofs.Common.{◌≡◌, ℕ, suc, ◌+◌, ◌^◌, ◌<◌, ◌≤◌, Bool, true, false, ◌&&◌, ltb, leb, List, [], ◌∷◌, ◌++◌, length, codes, decimal, fold, sum_by, sym, refl, ap, ◌∙◌, arith}
-use Rattle.std.specs.List.{flat_map, AllByRecursion as All}
+use Rattle.std.specs.List.{flat_map, AllByRecursion}
 use Rattle.std.proofs.lemmas.List.Sums.{sum_by_push, sum_by-append}
 use Rattle.std.proofs.lemmas.Bool.{and_parts, and_from}
 use Rattle.std.proofs.lemmas.Bool.Decides.{Decides-and}
@@ -22,7 +22,7 @@ abbrev pub reading : Due → ℕ → ℕ → List ℕ → List Table → List Ru
 reading d n rows ms ts rs = record { due = d; blocks = n; tuples = rows; net = record { masks = ms; tables = ts; rules = rs } }
 
 -- the masks: their number, and each
-pub masks_passage : Passage nothing_read (λ ms. ((1 ≤ length ms) × (length ms ≤ 32)) × All (λ m. m < 2 ^ 32) ms)
+pub masks_passage : Passage nothing_read (λ ms. ((1 ≤ length ms) × (length ms ≤ 32)) × AllByRecursion (λ m. m < 2 ^ 32) ms)
     (λ ms. text (codes "blocks") (decimal (length ms)) ∷ flat_map (with_key (codes "open") decimal) ms) (λ ms. reading sheets_due (length ms) 0 ms [] [])
 masks_passage = counted blocks_line (λ n _. times_each (λ m. m < 2 ^ 32) (with_key (codes "open") decimal) (λ k ms. reading (open_or_sheets k) n 0 ms [] []) (open_line n) n)
   where
@@ -60,9 +60,9 @@ climbs_push (t ∷ ts) u = climbs_from_push t ts u
 
 -- the rows of one table, after r
 rows_passage : (r : Reading) (k : ℕ) (kind : Kind) (scope : List ℕ) → 2 ≤ length scope → (m : ℕ) →
-    Passage (row_or_next k kind scope m [] r) (λ us. (length us ≡ m) × (All (λ u. (length u ≡ length scope) × All (λ s. s < 32) u) us × (climbs us ≡ true)))
+    Passage (row_or_next k kind scope m [] r) (λ us. (length us ≡ m) × (AllByRecursion (λ u. (length u ≡ length scope) × AllByRecursion (λ s. s < 32) u) us × (climbs us ≡ true)))
     (flat_map (with_key (codes "row") listed)) (λ us. row_or_next k kind scope 0 us r)
-rows_passage r k kind scope two m = times (λ u. (length u ≡ length scope) × All (λ s. s < 32) u) (λ us. climbs us ≡ true) (with_key (codes "row") listed)
+rows_passage r k kind scope two m = times (λ u. (length u ≡ length scope) × AllByRecursion (λ s. s < 32) u) (λ us. climbs us ≡ true) (with_key (codes "row") listed)
     (λ j us. row_or_next k kind scope j us r) climbs_front
     (λ j us h. within (rowed r k kind scope j us two)
     (λ u l. (l.0, climbs_push us u ∙ and_from _ _ h l.1)) (λ u l. (l.0, (and_parts _ _ (sym (climbs_push us u) ∙ l.1)).1)))
@@ -103,7 +103,7 @@ module _ (n : ℕ) (few : n ≤ 32) (ms : List ℕ) where
       rows_line kind s = numbered _ (λ e. never cc) (codes "rows") (refl, refl) (λ m. leb (rows + m) 4096) (λ _ _. refl) (λ m. decides_leb (rows + m) 4096) (λ m h. omega arith)
 
   -- the tables: their number, and each
-  pub tables_passage : Passage (reading sheets_due n 0 ms [] []) (λ ts. (length ts ≤ 32) × (All (TableWithin n) ts × (total ts ≤ 4096)))
+  pub tables_passage : Passage (reading sheets_due n 0 ms [] []) (λ ts. (length ts ≤ 32) × (AllByRecursion (TableWithin n) ts × (total ts ≤ 4096)))
       (λ ts. text (codes "sheets") (decimal (length ts)) ∷ flat_map table_lines ts) (λ ts. reading rules_due n (total ts) ms ts [])
   tables_passage = counted sheets_line (λ m _. times (TableWithin n) (λ ts. total ts ≤ 4096) table_lines (λ k ts. reading (kind_or_rules k) n (total ts) ms ts [])
       (λ vs ws h. omega (arith, sum_by-append (λ t. length t.tuples) vs ws))
@@ -134,7 +134,7 @@ module _ (n : ℕ) (few : n ≤ 32) (rows : ℕ) (ms : List ℕ) (ts : List Tabl
       scope_line rule = scoped _ (λ e. never cc) few (λ _ _. refl)
 
   -- the rules: their number, and each
-  pub rules_passage : Passage (reading rules_due n rows ms ts []) (λ rs. (length rs ≤ 192) × All (λ r. ScopeWithin n r.scope) rs)
+  pub rules_passage : Passage (reading rules_due n rows ms ts []) (λ rs. (length rs ≤ 192) × AllByRecursion (λ r. ScopeWithin n r.scope) rs)
       (λ rs. text (codes "rules") (decimal (length rs)) ∷ flat_map rule_lines rs) (λ rs. reading end_due n rows ms ts rs)
   rules_passage = counted rules_line (λ m _. times_each (λ r. ScopeWithin n r.scope) rule_lines (λ k rs. reading (rule_or_end k) n rows ms ts rs) rule_passage m)
     where

@@ -1,6 +1,6 @@
 -- A network that lies in memory passes the checks of its records, and means its sheets.
 use Rattle.std.proofs.Common.{◌≡◌, ℕ, ◌+◌, ◌*◌, ◌<◌, ◌≤◌, Bool, true, false, not, ltb, leb, List, [], ◌∷◌, ◌++◌, map, length, take, drop, Ok, sym, refl, ap, ◌∙◌, ap₂, append_assoc, suc-mul, zero-mul, arith, length-append}
-use Rattle.std.specs.List.{list_all, flat_map, AllByRecursion as All}
+use Rattle.std.specs.List.{list_all, flat_map, AllByRecursion}
 use Rattle.std.proofs.lemmas.List.{drop_at, take_at}
 use Rattle.std.proofs.lemmas.Bool.{and_from, lt-leb, lt-ltb, or_from}
 use Rattle.network.specs.Sheets.{Sheet, some_pass}
@@ -17,7 +17,7 @@ use Rattle.card.specs.Spelling.{RuleSheet, ScopeWithin, Table, TableWithin}
 use Rattle.card.proofs.Tests.{all_pass_append}
 use Rattle.card.proofs.Checking.{packed_front}
 
-all_below : (n : ℕ) (xs : List ℕ) → n ≤ 32 → All (λ b. b < n) xs → list_all (λ x. ltb x 32) xs ≡ true
+all_below : (n : ℕ) (xs : List ℕ) → n ≤ 32 → AllByRecursion (λ b. b < n) xs → list_all (λ x. ltb x 32) xs ≡ true
 all_below n [] l h = refl
 all_below n (x ∷ xs) l h = and_from _ _ (lt-ltb x 32 (omega arith)) (all_below n xs l h.1)
 
@@ -38,18 +38,18 @@ module _ (n : ℕ) (small : n ≤ 32) (scope : List ℕ) (h : ScopeWithin n scop
 -- tuples of one length, one after the other
 module _ (a : ℕ) where
   abbrev Slotted : List ℕ → Type 0
-  Slotted u = (length u ≡ a) × All (λ s. s < 32) u
+  Slotted u = (length u ≡ a) × AllByRecursion (λ s. s < 32) u
 
-  tuples_long : (us : List (List ℕ)) → All Slotted us → length (flat_map (λ u. u) us) ≡ length us * a
+  tuples_long : (us : List (List ℕ)) → AllByRecursion Slotted us → length (flat_map (λ u. u) us) ≡ length us * a
   tuples_long [] h = sym (zero-mul a)
   tuples_long (u ∷ us) h = omega (arith, length-append u (flat_map (λ v. v) us), h.0.0, tuples_long us h.1, suc-mul (length us) a)
 
-  tuples_back : (us : List (List ℕ)) → All Slotted us → tuples_in a (length us) (flat_map (λ u. u) us) ≡ us
+  tuples_back : (us : List (List ℕ)) → AllByRecursion Slotted us → tuples_in a (length us) (flat_map (λ u. u) us) ≡ us
   tuples_back [] h = refl
   tuples_back (u ∷ us) h =
       ap₂ (λ v vs. v ∷ vs) (take_at u (flat_map (λ v. v) us) a h.0.0) (ap (tuples_in a (length us)) (drop_at u (flat_map (λ v. v) us) a h.0.0) ∙ tuples_back us h.1)
 
-  tuples_below : (us : List (List ℕ)) → All Slotted us → list_all (λ x. ltb x 32) (flat_map (λ u. u) us) ≡ true
+  tuples_below : (us : List (List ℕ)) → AllByRecursion Slotted us → list_all (λ x. ltb x 32) (flat_map (λ u. u) us) ≡ true
   tuples_below [] h = refl
   tuples_below (u ∷ us) h = all_pass_append (λ x. ltb x 32) u (flat_map (λ v. v) us) (all_below 32 u (omega arith) h.0.1) (tuples_below us h.1)
 
@@ -90,7 +90,7 @@ module _ (n : ℕ) (small : n ≤ 32) (t : Table) (h : TableWithin n t) (few : l
 
 module _ (n : ℕ) (small : n ≤ 32) where
   -- tables one after the other
-  tables_good : (ts : List Table) → All (TableWithin n) ts → All (λ t. length t.tuples ≤ 4096) ts → (pre post cells : List ℕ) (f : ℕ) → cells ≡ pre ++ (flat_map cells_of ts ++ post) → length pre ≡ f →
+  tables_good : (ts : List Table) → AllByRecursion (TableWithin n) ts → AllByRecursion (λ t. length t.tuples ≤ 4096) ts → (pre post cells : List ℕ) (f : ℕ) → cells ≡ pre ++ (flat_map cells_of ts ++ post) → length pre ≡ f →
       (on_first (table_verdict cells) (records_from f ts) ≡ Ok tt) × (map (table_sheet cells) (records_from f ts) ≡ map sheet_of_table ts)
   tables_good [] h few pre post cells f is long = (refl, refl)
   tables_good (t ∷ ts) h few pre post cells f is long =
@@ -108,7 +108,7 @@ module _ (n : ℕ) (small : n ≤ 32) where
       let read = scope_read n small r.scope h in
       simp (well_sized (length r.scope) h.low h.high, read, in_range r.scope (scope_below n small r.scope h), h.apart)
 
-  rules_good : (rs : List RuleSheet) → All (λ r. ScopeWithin n r.scope) rs → (on_first rule_verdict (map rule_record rs) ≡ Ok tt) × (map rule_sheet (map rule_record rs) ≡ map sheet_of_rule rs)
+  rules_good : (rs : List RuleSheet) → AllByRecursion (λ r. ScopeWithin n r.scope) rs → (on_first rule_verdict (map rule_record rs) ≡ Ok tt) × (map rule_sheet (map rule_record rs) ≡ map sheet_of_rule rs)
   rules_good [] h = (refl, refl)
   rules_good (r ∷ rs) h =
       let more = rules_good rs h.1 in
@@ -123,10 +123,10 @@ misfits n m = some_pass (λ sh. some_pass (λ b. leb n b) sh.scope) m
 
 -- every block of a scope is below n
 module _ (n : ℕ) where
-  scope_fits : (scope : List ℕ) → All (λ b. b < n) scope → some_pass (λ b. leb n b) scope ≡ false
+  scope_fits : (scope : List ℕ) → AllByRecursion (λ b. b < n) scope → some_pass (λ b. leb n b) scope ≡ false
   scope_fits [] h = refl
   scope_fits (b ∷ bs) h = or_from _ _ (lt-leb n b h.0) (scope_fits bs h.1)
 
-  sheets_fit : {A : Type 0} (sheet : A → Sheet) (xs : List A) (rest : List Sheet) → All (λ x. ScopeWithin n (sheet x).scope) xs → misfits n rest ≡ false → misfits n (map sheet xs ++ rest) ≡ false
+  sheets_fit : {A : Type 0} (sheet : A → Sheet) (xs : List A) (rest : List Sheet) → AllByRecursion (λ x. ScopeWithin n (sheet x).scope) xs → misfits n rest ≡ false → misfits n (map sheet xs ++ rest) ≡ false
   sheets_fit sheet [] rest h e = e
   sheets_fit sheet (x ∷ xs) rest h e = or_from _ _ (scope_fits (sheet x).scope h.0.blocks) (sheets_fit sheet xs rest h.1 e)

@@ -1,6 +1,6 @@
 -- The network that a card spells, its limits, and its one spelling.
 use Rattle.std.specs.Prelude.{◌≡◌, ℕ, ◌^◌, ◌<◌, ◌≤◌, true, List, [], ◌∷◌, ◌++◌, length, codes, decimal, sum_by, nat_eq}
-use Rattle.std.specs.List.{AllByRecursion as All}
+use Rattle.std.specs.List.{AllByRecursion}
 use Rattle.network.specs.Sheets.{is_distinct}
 use Rattle.banks.specs.declared.table.Kind.{Kind}
 use Rattle.banks.specs.declared.table.Kind.TheVariants.{Allow, Deny}
@@ -26,22 +26,22 @@ pub record Network : Type 0 where
 pub record ScopeWithin (n : ℕ) (scope : List ℕ) : Type 0 where
   pub low : 2 ≤ length scope
   pub high : length scope ≤ 6
-  pub blocks : All (λ b. b < n) scope
+  pub blocks : AllByRecursion (λ b. b < n) scope
   pub apart : is_distinct nat_eq scope ≡ true
 
 pub record TableWithin (n : ℕ) (t : Table) : Type 0 where
   pub scope : ScopeWithin n t.scope
-  pub tuples : All (λ u. (length u ≡ length t.scope) × All (λ s. s < 32) u) t.tuples
+  pub tuples : AllByRecursion (λ u. (length u ≡ length t.scope) × AllByRecursion (λ s. s < 32) u) t.tuples
   pub ascend : climbs t.tuples ≡ true
 
 pub record Within (x : Network) : Type 0 where
   pub few : (1 ≤ length x.masks) × (length x.masks ≤ 32)
-  pub masks : All (λ m. m < 2 ^ 32) x.masks
+  pub masks : AllByRecursion (λ m. m < 2 ^ 32) x.masks
   pub sheets : length x.tables ≤ 32
-  pub tables : All (TableWithin (length x.masks)) x.tables
+  pub tables : AllByRecursion (TableWithin (length x.masks)) x.tables
   pub few_tuples : sum_by (λ t. length t.tuples) x.tables ≤ 4096
   pub few_rules : length x.rules ≤ 192
-  pub rules : All (λ r. ScopeWithin (length x.masks) r.scope) x.rules
+  pub rules : AllByRecursion (λ r. ScopeWithin (length x.masks) r.scope) x.rules
 
 -- a line: key, equals sign, value, newline
 abbrev pub line : List ℕ → List ℕ → List ℕ
