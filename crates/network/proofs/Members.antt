@@ -1,4 +1,4 @@
--- Membership in lists, as `++`, `kept_by`, `map`, `joined`, `counting`, `some-pass` and `all_pass` show it. A name `in-..` gives a membership, `of-..` uses one.
+-- Membership in lists, as `++`, `filter`, `map`, `flat_map`, `range_with_len`, `some_pass` and `list_all` show it. A name `in_..` gives a membership, `of_..` uses one.
 use Rattle.std.proofs.Common.{◌≡◌, ℕ, zero, suc, ◌+◌, ◌<◌, ◌≤◌, Bool, true, false, ◌⊎◌, List, [], ◌∷◌, ◌++◌, map, length, get_or, filter, sym, refl, ap, ◌∙◌, subst, inl, inr, ⊎_elim, arith}
 use Rattle.std.specs.List.{range_with_len, list_all, flat_map}
 use Rattle.std.proofs.lemmas.Bool.{and_from, and_parts, both_ways, cases_eq, cond_both, or_cases, or_left, or_right}
