@@ -122,6 +122,9 @@ from_zero m a h z =
     from_past m a (32 - a) (omega arith) (λ k p q. let i : a + (k - a) ≡ k = omega arith in ap (has m) (sym i) ∙ sym (has_shift m a (k - a)) ∙ ap (λ x. has x (k - a)) z ∙ has_none (k - a))
     ∙ from_end m (a + (32 - a)) (omega arith)
 
+pub none_from_zero : (m a : ℕ) → a < 32 → m / 2 ^ a ≡ 0 → None ≡ first_of (slots_from m a)
+none_from_zero m a h z = sym (ap first_of (from_zero m a (omega arith) z))
+
 -- the slots between are none of the mask's
 pub first_after : (m a t : ℕ) → a ≤ 32 → first_of (slots_from m a) ≡ Some t → (s : ℕ) → a ≤ s → s < t → has m s ≡ false
 first_after m a t h e s l k =
