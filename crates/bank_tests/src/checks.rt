@@ -7,14 +7,6 @@ use network::bank::Bank;
 use network::refusal::Refusal;
 use std::test::Fail;
 
-// The number of a refusal, or 0 for none.
-fn number(answer: Result<(), Refusal>) -> u8 {
-    match answer {
-        Ok(()) => 0,
-        Err(refusal) => refusal.number(),
-    }
-}
-
 // How many sheets the bank over these records has.
 fn rule_sheets(lines: &[RuleRecord]) -> usize {
     let bank = RuleBank::new(lines);
@@ -23,44 +15,54 @@ fn rule_sheets(lines: &[RuleRecord]) -> usize {
 
 const CELLS: [u8; 12] = [0, 31, 1, 0, 1, 0, 5, 4, 32, 0, 0, 0];
 
-// Arity, blocks, first cell, tuples, and the number that the check answers.
+// Arity, blocks, first cell, tuples, and what the check answers.
 #[derive(Clone, Copy)]
-struct Case(u8, [u8; 6], usize, usize, u8);
+struct Case(u8, [u8; 6], usize, usize, Result<(), Refusal>);
+
+const GOOD: Result<(), Refusal> = Ok(());
+
+const OVERLOAD: Result<(), Refusal> = Err(Refusal::LimitExceeded);
+
+const DOUBLED: Result<(), Refusal> = Err(Refusal::Repeated);
+
+const SHORT: Result<(), Refusal> = Err(Refusal::PlaceTooShort);
+
+const OFF: Result<(), Refusal> = Err(Refusal::OutOfRange);
 
 const CASES: [Case; 28] = [
-    Case(2, [0, 31, 0, 0, 0, 0], 0, 2, 0),
-    Case(2, [0, 31, 0, 99, 0, 0], 0, 0, 0),
-    Case(6, [5, 4, 3, 2, 1, 0], 0, 1, 0),
+    Case(2, [0, 31, 0, 0, 0, 0], 0, 2, GOOD),
+    Case(2, [0, 31, 0, 99, 0, 0], 0, 0, GOOD),
+    Case(6, [5, 4, 3, 2, 1, 0], 0, 1, GOOD),
     // an arity outside 2 to 6, before everything else
-    Case(1, [0, 0, 0, 0, 0, 0], 0, 0, 2),
-    Case(0, [0, 0, 0, 0, 0, 0], 0, 0, 2),
-    Case(7, [0, 0, 0, 0, 0, 0], 99, 0, 2),
-    Case(255, [0, 0, 0, 0, 0, 0], 0, 0, 2),
+    Case(1, [0, 0, 0, 0, 0, 0], 0, 0, OVERLOAD),
+    Case(0, [0, 0, 0, 0, 0, 0], 0, 0, OVERLOAD),
+    Case(7, [0, 0, 0, 0, 0, 0], 99, 0, OVERLOAD),
+    Case(255, [0, 0, 0, 0, 0, 0], 0, 0, OVERLOAD),
     // too many tuples, before too few cells
-    Case(2, [0, 1, 0, 0, 0, 0], 0, 4096, 4),
-    Case(2, [0, 1, 0, 0, 0, 0], 0, 4097, 2),
-    Case(6, [0, 1, 2, 3, 4, 5], 0, usize::MAX, 2),
+    Case(2, [0, 1, 0, 0, 0, 0], 0, 4096, SHORT),
+    Case(2, [0, 1, 0, 0, 0, 0], 0, 4097, OVERLOAD),
+    Case(6, [0, 1, 2, 3, 4, 5], 0, usize::MAX, OVERLOAD),
     // the last cell, and one past it
-    Case(2, [0, 1, 0, 0, 0, 0], 10, 1, 0),
-    Case(2, [0, 1, 0, 0, 0, 0], 11, 1, 4),
-    Case(2, [0, 1, 0, 0, 0, 0], 12, 0, 0),
-    Case(2, [0, 1, 0, 0, 0, 0], 13, 0, 4),
-    Case(2, [0, 1, 0, 0, 0, 0], usize::MAX, 0, 4),
-    Case(6, [0, 1, 2, 3, 4, 5], usize::MAX - 5, 1, 4),
-    Case(6, [0, 1, 2, 3, 4, 5], usize::MAX, 4096, 4),
-    Case(2, [99, 99, 0, 0, 0, 0], 13, 0, 4),
+    Case(2, [0, 1, 0, 0, 0, 0], 10, 1, GOOD),
+    Case(2, [0, 1, 0, 0, 0, 0], 11, 1, SHORT),
+    Case(2, [0, 1, 0, 0, 0, 0], 12, 0, GOOD),
+    Case(2, [0, 1, 0, 0, 0, 0], 13, 0, SHORT),
+    Case(2, [0, 1, 0, 0, 0, 0], usize::MAX, 0, SHORT),
+    Case(6, [0, 1, 2, 3, 4, 5], usize::MAX - 5, 1, SHORT),
+    Case(6, [0, 1, 2, 3, 4, 5], usize::MAX, 4096, SHORT),
+    Case(2, [99, 99, 0, 0, 0, 0], 13, 0, SHORT),
     // a block above 31, and a cell above 31, before a repetition
-    Case(2, [0, 32, 0, 0, 0, 0], 0, 1, 7),
-    Case(3, [0, 0, 32, 0, 0, 0], 0, 1, 7),
-    Case(2, [0, 1, 0, 0, 0, 0], 8, 1, 7),
-    Case(2, [1, 1, 0, 0, 0, 0], 8, 1, 7),
+    Case(2, [0, 32, 0, 0, 0, 0], 0, 1, OFF),
+    Case(3, [0, 0, 32, 0, 0, 0], 0, 1, OFF),
+    Case(2, [0, 1, 0, 0, 0, 0], 8, 1, OFF),
+    Case(2, [1, 1, 0, 0, 0, 0], 8, 1, OFF),
     // a block twice, tuples the same, tuples that descend
-    Case(2, [7, 7, 0, 0, 0, 0], 0, 1, 3),
-    Case(6, [0, 1, 2, 3, 4, 0], 0, 1, 3),
-    Case(2, [0, 1, 0, 0, 0, 0], 2, 2, 3),
-    Case(2, [0, 1, 0, 0, 0, 0], 4, 2, 0),
-    Case(3, [0, 1, 2, 0, 0, 0], 0, 2, 3),
-    Case(2, [0, 1, 0, 0, 0, 0], 0, 4, 3),
+    Case(2, [7, 7, 0, 0, 0, 0], 0, 1, DOUBLED),
+    Case(6, [0, 1, 2, 3, 4, 0], 0, 1, DOUBLED),
+    Case(2, [0, 1, 0, 0, 0, 0], 2, 2, DOUBLED),
+    Case(2, [0, 1, 0, 0, 0, 0], 4, 2, GOOD),
+    Case(3, [0, 1, 2, 0, 0, 0], 0, 2, DOUBLED),
+    Case(2, [0, 1, 0, 0, 0, 0], 0, 4, DOUBLED),
 ];
 
 #[test]
@@ -76,7 +78,7 @@ fn table_records(rt: HostRuntime) -> Result<(), Fail> {
                 tuples,
             }];
             let sheets = TableBank::new(&lines, &CELLS).count();
-            if number(check_tables(&lines, &CELLS)) != answer || (sheets == 1) != (answer == 0) {
+            if check_tables(&lines, &CELLS) != answer || (sheets == 1) != answer.is_ok() {
                 assert_eq!(rt; i, CASES.len(), "the number of the case, from 0");
                 return Ok(());
             }
@@ -101,7 +103,7 @@ fn rule_records(rt: HostRuntime) -> Result<(), Fail> {
             blocks,
         }];
         let only_scope = first == 0 && tuples <= 1;
-        if only_scope && number(check_rules(&lines)) != answer {
+        if only_scope && check_rules(&lines) != answer {
             assert_eq!(rt; i, CASES.len(), "the number of the case, from 0");
             return Ok(());
         }
@@ -115,7 +117,7 @@ fn rule_records(rt: HostRuntime) -> Result<(), Fail> {
             ..LINE
         },
     ];
-    assert_eq!(rt; number(check_rules(&lines)), 2);
+    assert_eq!(rt; check_rules(&lines), OVERLOAD);
     assert_eq!(rt; rule_sheets(&lines), 0);
     let lines = [
         LINE,
@@ -125,17 +127,17 @@ fn rule_records(rt: HostRuntime) -> Result<(), Fail> {
         },
         RuleRecord { arity: 1, ..LINE },
     ];
-    assert_eq!(rt; number(check_rules(&lines)), 3);
+    assert_eq!(rt; check_rules(&lines), DOUBLED);
     assert_eq!(rt; rule_sheets(&[LINE; 1024]), 1024);
-    assert_eq!(rt; number(check_rules(&[LINE; 1025])), 2);
+    assert_eq!(rt; check_rules(&[LINE; 1025]), OVERLOAD);
     assert_eq!(rt; rule_sheets(&[LINE; 1025]), 0);
     // the number of records comes before what is in them
     assert_eq!(rt;
-        number(check_rules(&[RuleRecord {
+        check_rules(&[RuleRecord {
             blocks: [9; 6],
             ..LINE
-        }; 1025],)),
-        2
+        }; 1025]),
+        OVERLOAD
     );
     Ok(())
 }
@@ -162,13 +164,13 @@ fn ascending() -> [u8; 12291] {
 #[test]
 fn longest_tables(rt: HostRuntime) {
     let cells = ascending();
-    assert_eq!(rt; number(check_tables(&[TABLE; 1024], &cells)), 0);
-    assert_eq!(rt; number(check_tables(&[TABLE; 1025], &cells)), 2);
+    assert_eq!(rt; check_tables(&[TABLE; 1024], &cells), GOOD);
+    assert_eq!(rt; check_tables(&[TABLE; 1025], &cells), OVERLOAD);
     let longer = TableRecord {
         tuples: 4097,
         ..TABLE
     };
-    assert_eq!(rt; number(check_tables(&[longer], &cells)), 2);
+    assert_eq!(rt; check_tables(&[longer], &cells), OVERLOAD);
 }
 
 #[test]
@@ -184,5 +186,5 @@ fn longest_table_answers(rt: HostRuntime) {
 fn last_tuple_twice(rt: HostRuntime) {
     let mut cells = ascending();
     cells[12287] = 30;
-    assert_eq!(rt; number(check_tables(&[TABLE], &cells)), 3);
+    assert_eq!(rt; check_tables(&[TABLE], &cells), DOUBLED);
 }

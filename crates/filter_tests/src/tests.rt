@@ -6,33 +6,22 @@ use banks::table_bank::TableBank;
 use filters::nfc::Nfc;
 use network::bank::Bank;
 use network::filter::Filter;
+use network::refusal::Refusal;
 use network::row::Row;
 use six_blocks::{CELLS, OPEN, TABLES};
 use std::test::Fail;
 
-const FILTERS: u8 = 6;
-
 fn filtered<B: Bank>(
-    number: u8,
+    filter: Nfc,
     bank: &B,
     opened: &[u32],
     present: &[u32],
     decided: usize,
 ) -> Option<Row> {
-    let mut filter = Nfc::from_number(number)?;
+    let mut filter = filter;
     let mut row = Row::new(opened, present, decided)?;
     filter.apply(bank, &mut row);
     Some(row)
-}
-
-// Whether the row has these present masks, one a block.
-fn has_masks(row: &Row, masks: &[u32]) -> bool {
-    for (block, mask) in masks.iter().enumerate() {
-        if row.present_mask(block) != *mask {
-            return false;
-        }
-    }
-    row.blocks() == masks.len()
 }
 
 #[test]
@@ -40,9 +29,9 @@ fn rows_of_the_example(rt: HostRuntime) -> Result<(), Fail> {
     let bank = TableBank::new(&TABLES, &CELLS);
     for (i, case) in CASES.iter().enumerate() {
         let n = case.blocks.min(6);
-        for (number, left) in case.left.iter().enumerate() {
+        for (filter, left) in Nfc::ALL.iter().zip(case.left.iter()) {
             let Some(row) = filtered(
-                number as u8,
+                *filter,
                 &bank,
                 &OPEN[0..n],
                 &case.present[0..n],
@@ -50,9 +39,9 @@ fn rows_of_the_example(rt: HostRuntime) -> Result<(), Fail> {
             ) else {
                 return Err(Fail::new("no row"));
             };
-            if !has_masks(&row, &left[0..n]) || row.decided() != case.decided {
+            if row.present_masks() != &left[0..n] || row.decided() != case.decided {
                 assert_eq!(rt;
-                    (i, number),
+                    (i, u8::from(*filter)),
                     (CASES.len(), 0),
                     "the case and the filter, from 0"
                 );
@@ -64,16 +53,13 @@ fn rows_of_the_example(rt: HostRuntime) -> Result<(), Fail> {
 }
 
 #[test]
-fn numbers(rt: HostRuntime) -> Result<(), Fail> {
-    for number in 0..FILTERS {
-        assert_eq!(rt;
-            Nfc::from_number(number).ok_or("no such filter")?.number(),
-            number
-        );
+fn numbers(rt: HostRuntime) {
+    for (number, filter) in (0u8..6).zip(Nfc::ALL) {
+        assert_eq!(rt; Nfc::try_from(number), Ok(filter));
+        assert_eq!(rt; u8::from(filter), number);
     }
-    assert!(rt; Nfc::from_number(FILTERS).is_none());
-    assert!(rt; Nfc::from_number(255).is_none());
-    Ok(())
+    assert_eq!(rt; Nfc::try_from(6), Err(Refusal::LimitExceeded));
+    assert_eq!(rt; Nfc::try_from(255), Err(Refusal::LimitExceeded));
 }
 
 const RULES: [RuleRecord; 2] = [
@@ -94,12 +80,15 @@ fn thirty_two_blocks(rt: HostRuntime) -> Result<(), Fail> {
     let bank = RuleBank::new(&RULES);
     let mut present = [0x8000_0001; 32];
     present[0] = 1;
-    for number in 0..FILTERS {
-        let Some(row) = filtered(number, &bank, &[0xffff_ffff; 32], &present, 1) else {
+    for filter in Nfc::ALL {
+        let Some(row) = filtered(filter, &bank, &[0xffff_ffff; 32], &present, 1) else {
             return Err(Fail::new("no row"));
         };
         // the last block loses slot 0; six different slots are then too many, but for nFC0, which does not ask, and nFC1, which asks by open masks
-        let last = if number < 2 { 0x8000_0000 } else { 0 };
+        let last = match filter {
+            Nfc::Nfc0 | Nfc::Nfc1 => 0x8000_0000,
+            _ => 0,
+        };
         assert_eq!(rt; row.present_mask(31), last);
     }
     assert!(rt; Row::new(&[7; 33], &[7; 33], 0).is_none());

@@ -1,15 +1,15 @@
 -- A pass over the sheets of a set, sheet by sheet, and passes until nothing changes.
-use Rattle.std.proofs.Common.{◌≡◌, ℕ, zero, suc, ◌+◌, ◌<◌, ◌≤◌, true, false, cond, eqb, ltb, List, [], ◌∷◌, ◌++◌, length, get_or, take, drop, fold, filter, sym, refl, ap, ◌∙◌, subst, inl, inr, arith}
+use Rattle.std.proofs.Common.{◌≡◌, ℕ, zero, suc, ◌+◌, ◌<◌, true, false, cond, List, [], ◌∷◌, ◌++◌, length, get_or, take, drop, fold, filter, sym, refl, ap, ◌∙◌, subst, inl, inr, arith}
 use Rattle.std.proofs.lemmas.List.Elements.{filter-append, filter_more}
-use Rattle.std.proofs.lemmas.List.{take_all, take-append-drop}
+use Rattle.std.proofs.lemmas.List.{take-append-drop}
 use Rattle.std.proofs.lemmas.List.Sums.{fold_push}
-use Rattle.std.proofs.lemmas.Bool.{cond-false, cond-true, eqb-true, ltb-true}
+use Rattle.std.proofs.lemmas.Bool.{cond-false, cond-true}
 use Rattle.network.specs.Sheets.{Sheet, sheet_at}
-use Rattle.network.specs.Rows.{Row, dead, names_current, names_decided, passed_over, undecided_in}
+use Rattle.network.specs.Rows.{Row, dead}
 use Rattle.network.specs.Filters.{fits, narrowed, pass, stabilized, total_slots}
 use Rattle.network.specs.Laws.{LawfulRow, Under}
 use Rattle.network.proofs.Passes.{Sound, fold_lawful, fold_under, narrowed_sound, pass_lawful, projected_sound}
-use Rattle.network.proofs.Picks.{Picking, current_future_picking, current_one_picking, past_future_picking, picked}
+use Rattle.network.proofs.Picks.{Picking, current_future_picking, current_one_picking, past_future_picking}
 use Rattle.network.proofs.Renarrowing.{narrowed_still}
 use Rattle.network.proofs.Settling.{row_fewer}
 use Rattle.network.proofs.Stabilizing.{stabilized_at, stabilized_fixed}
@@ -32,18 +32,6 @@ pub set_picking : (set : SheetSet) → Picking (picks_of set)
 set_picking CurrentOne = current_one_picking
 set_picking CurrentFuture = current_future_picking
 set_picking PastFuture = past_future_picking
-
--- a picked sheet names blocks of the row only, and an undecided one
-pub picked_set : (set : SheetSet) (r : Row) (sh : Sheet) → picks_of set r sh ≡ true → (passed_over r sh ≡ false) × (0 < undecided_in r sh)
-picked_set CurrentOne r sh e =
-    let a = picked (passed_over r sh) (names_current r sh) (eqb (undecided_in r sh) 1) e in
-    (a.0, omega (arith, eqb-true (undecided_in r sh) 1 a.2))
-picked_set CurrentFuture r sh e =
-    let a = picked (passed_over r sh) (names_current r sh) (ltb 0 (undecided_in r sh)) e in
-    (a.0, ltb-true 0 (undecided_in r sh) a.2)
-picked_set PastFuture r sh e =
-    let a = picked (passed_over r sh) (names_decided r sh) (ltb 0 (undecided_in r sh)) e in
-    (a.0, ltb-true 0 (undecided_in r sh) a.2)
 
 -- a dead row stays
 step_still : (reading : Reading) (r : Row) (sh : Sheet) → LawfulRow r → dead r ≡ true → step_by reading r sh ≡ r
@@ -75,10 +63,6 @@ pub record Passed (reading : Reading) (set : SheetSet) (m : List Sheet) (r q : R
   pub row : q ≡ fold (step_by reading) r (filter (picks_of set r) (take c m))
   pub told : Told effect r q
 
-pub passed_start : (reading : Reading) (set : SheetSet) (m : List Sheet) (r : Row) → Passed reading set m r r 0 Unchanged
-passed_start reading set [] r = record { row = refl; told = refl }
-passed_start reading set (x ∷ xs) r = record { row = refl; told = refl }
-
 -- the pass, at an equal effect
 pub passed_as : {reading : Reading} {set : SheetSet} {m : List Sheet} {r q : Row} {c : ℕ} {e f : Effect} → e ≡ f → Passed reading set m r q c f → Passed reading set m r q c e
 passed_as {reading} {set} {m} {r} {q} {c} a w = subst (λ x. Passed reading set m r q c x) (sym a) w
@@ -89,10 +73,6 @@ module _ {reading : Reading} {set : SheetSet} {m : List Sheet} {r q : Row} {c : 
 
   uq : Under q r
   uq = subst (λ x. Under x r) (sym w.row) (fold_under (step_sound reading) r (filter (picks_of set r) (take c m)))
-
-  -- at the end the pass is done
-  pub passed_end : length m ≤ c → q ≡ pass (step_by reading) (picks_of set) m r
-  passed_end l = w.row ∙ ap (λ xs. fold (step_by reading) r (filter (picks_of set r) xs)) (take_all c m l)
 
   module _ (l : c < length m) where
     more : filter (picks_of set r) (take (c + 1) m) ≡ filter (picks_of set r) (take c m) ++ cond (picks_of set r (sheet_at m c)) (sheet_at m c ∷ []) []
@@ -145,10 +125,6 @@ module _ (set : SheetSet) (m : List Sheet) {r : Row} (lr : LawfulRow r) where
   -- where a pass changes nothing, it has ended
   pub settled_here : pass narrowed (picks_of set) m r ≡ r → stabilized (picks_of set) m r ≡ r
   settled_here e = stabilized_at (set_picking set) m lr 0 e
-
-  -- and a dead row does not change
-  pub settled_dead : dead r ≡ true → stabilized (picks_of set) m r ≡ r
-  settled_dead d = settled_here (fold_still Present r (filter (picks_of set r) m) lr d)
 
   -- what passes leave after one more
   module _ {q : Row} (e : q ≡ pass narrowed (picks_of set) m r) where

@@ -1,9 +1,11 @@
 -- The number and the meaning of each filter, and which of them leave the largest stable row.
-use Rattle.std.specs.Prelude.{◌≡◌, ℕ, ◌<◌, false, List}
+use Rattle.std.specs.Prelude.{◌≡◌, ℕ, ◌<◌, ◌≤◌, false, List, MatchResult, Result}
 use Rattle.network.specs.Sheets.{Sheet}
 use Rattle.network.specs.Rows.{Row, current_future, dead, past_future}
 use Rattle.network.specs.Filters.{Filtering, nfc0, nfc1, nfc2, nfc3, nfc4, nfc5}
 use Rattle.network.specs.Laws.{Largest}
+use Rattle.network.specs.declared.refusal.Refusal.{Refusal}
+use Rattle.network.specs.declared.refusal.Refusal.TheVariants.{LimitExceeded}
 use Rattle.filters.specs.declared.nfc.Nfc.{Nfc}
 use Rattle.filters.specs.declared.nfc.Nfc.TheVariants.{Nfc0, Nfc1, Nfc2, Nfc3, Nfc4, Nfc5}
 
@@ -14,6 +16,10 @@ number_of Nfc2 = 2
 number_of Nfc3 = 3
 number_of Nfc4 = 4
 number_of Nfc5 = 5
+
+-- what a number from 0 to 5 names is the filter of that number; another passes the limit
+abbrev pub Numbers : ℕ → Result Nfc Refusal → Type 0
+Numbers n r = MatchResult r (λ f. number_of f ≡ n) (λ e. (6 ≤ n) × (e ≡ LimitExceeded))
 
 abbrev pub filter_of : Nfc → Filtering
 filter_of Nfc0 = nfc0

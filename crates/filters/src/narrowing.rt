@@ -9,7 +9,7 @@ ghost use Rattle.network.specs.Sheets.{has, mask_of, sheet_at, supported};
 use crate::effect::Effect;
 use crate::reading::Reading;
 use network::bank::Bank;
-use network::mask::{single, slot_from};
+use network::mask::{single, slots_of};
 use network::row::Row;
 
 // The slots of the mask that have a support at position `p` of sheet `c`.
@@ -17,12 +17,10 @@ fn supported_slots<B: Bank>(bank: &B, c: usize, masks: &[u32; 6], p: usize, mask
     ensures { result ≡ mask_of (λ s. has mask s && supported (sheet_at (B.Bank.meaning bank.now) c) masks.now p s) }
 {
     let mut left = 0;
-    let mut from = 0;
-    while let Some(slot) = slot_from(mask, from) {
+    for slot in slots_of(mask) {
         if bank.supports(c, masks, p, slot) {
             left |= single(slot);
         }
-        from = slot + 1;
     }
     left
 }

@@ -1,7 +1,7 @@
 // The six filters, from the weakest to the strongest.
-ghost use Rattle.std.specs.Prelude.{◌≡◌, ◌≤◌, MatchOption};
+ghost use Rattle.std.specs.Prelude.{◌≡◌};
 ghost use Rattle.filters.specs.NfcLaws.{filter_law};
-ghost use Rattle.filters.specs.Nfcs.{LeavesLargest, filter_of, number_of};
+ghost use Rattle.filters.specs.Nfcs.{LeavesLargest, Numbers, filter_of, number_of};
 ghost use Rattle.network.specs.Example.{ExampleNodes, ExampleRows};
 ghost use Rattle.network.specs.Nesting.{Nested};
 ghost use Rattle.network.specs.RowModel.{model};
@@ -11,6 +11,7 @@ use crate::reading::Reading;
 use crate::sheet_set::SheetSet;
 use network::bank::Bank;
 use network::filter::Filter;
+use network::refusal::Refusal;
 use network::row::Row;
 
 #[derive(Clone, Copy, PartialEq, Eq, Debug)]
@@ -29,35 +30,48 @@ pub enum Nfc {
     Nfc5,
 }
 
-fn by_number(number: u8) -> Option<Nfc>
-    ensures { MatchOption result (6 ≤ number) (λ f. number_of f ≡ number) }
-{
-    match number {
-        0 => Some(Nfc::Nfc0),
-        1 => Some(Nfc::Nfc1),
-        2 => Some(Nfc::Nfc2),
-        3 => Some(Nfc::Nfc3),
-        4 => Some(Nfc::Nfc4),
-        5 => Some(Nfc::Nfc5),
-        _ => None,
-    }
+impl Nfc {
+    // All six, each at its number.
+    pub const ALL: [Nfc; 6] = [
+        Nfc::Nfc0,
+        Nfc::Nfc1,
+        Nfc::Nfc2,
+        Nfc::Nfc3,
+        Nfc::Nfc4,
+        Nfc::Nfc5,
+    ];
 }
 
-impl Nfc {
-    // The filter of a number from 0 to 5. Its clauses hold of all six: how their nodes lie within one another, and what they leave of the example network.
-    pub fn from_number(number: u8) -> Option<Nfc>
-        ensures numbered { MatchOption result (6 ≤ number) (λ f. number_of f ≡ number) }
+impl TryFrom<u8> for Nfc {
+    type Error = Refusal;
+
+    ghost try_from_gives = { Numbers };
+
+    // The filter of a number from 0 to 5. The other clauses hold of all six: how their nodes lie within one another, and what they leave of the example network.
+    #[tactic(auto, using(network::proofs::Nested::nested, network::proofs::ExampleHolds::example_rows, network::proofs::ExampleHolds::example_nodes))]
+    fn try_from(number: u8) -> Result<Nfc, Refusal>
+        ensures numbered { Numbers number result }
         ensures nested { Nested }
         ensures rows { ExampleRows }
         ensures nodes { ExampleNodes }
     {
-        by_number(number)
+        match number {
+            0 => Ok(Nfc::Nfc0),
+            1 => Ok(Nfc::Nfc1),
+            2 => Ok(Nfc::Nfc2),
+            3 => Ok(Nfc::Nfc3),
+            4 => Ok(Nfc::Nfc4),
+            5 => Ok(Nfc::Nfc5),
+            _ => Err(Refusal::LimitExceeded),
+        }
     }
+}
 
-    pub fn number(self) -> u8
-        ensures { result ≡ number_of self }
-    {
-        self as u8
+impl From<Nfc> for u8 {
+    ghost from_gives = { λ filter number. number ≡ number_of filter };
+
+    fn from(filter: Nfc) -> u8 {
+        filter as u8
     }
 }
 

@@ -9,15 +9,6 @@ use network::bank::Bank;
 use six_blocks::{CELLS, OPEN, TABLES};
 use std::test::Fail;
 
-const FILTERS: [Nfc; 6] = [
-    Nfc::Nfc0,
-    Nfc::Nfc1,
-    Nfc::Nfc2,
-    Nfc::Nfc3,
-    Nfc::Nfc4,
-    Nfc::Nfc5,
-];
-
 // The nodes of each filter's tree.
 const NODES: [u32; 6] = [65, 17, 16, 16, 14, 14];
 
@@ -95,7 +86,7 @@ fn every_budget(rt: HostRuntime) -> Result<(), Fail> {
     let mut session = Session::blank();
     assert!(rt; session.open(&bank, &OPEN).is_ok());
     for budget in 1..67 {
-        for (filter, nodes) in FILTERS.iter().zip(NODES.iter()) {
+        for (filter, nodes) in Nfc::ALL.iter().zip(NODES.iter()) {
             assert!(rt; session.rewind().is_ok());
             let Some(shown) = rest(
                 &mut session,
@@ -140,8 +131,8 @@ fn another_filter_at_every_position(rt: HostRuntime) -> Result<(), Fail> {
     let bank = TableBank::new(&TABLES, &CELLS);
     let mut session = Session::blank();
     assert!(rt; session.open(&bank, &OPEN).is_ok());
-    for (first, nodes) in FILTERS.iter().zip(NODES.iter()) {
-        for second in FILTERS.iter() {
+    for (first, nodes) in Nfc::ALL.iter().zip(NODES.iter()) {
+        for second in Nfc::ALL.iter() {
             for visits in 0..*nodes {
                 assert!(rt; session.rewind().is_ok());
                 let Some(shown) = changed(&mut session, &bank, *first, visits, *second) else {
@@ -190,7 +181,7 @@ fn pins(rt: HostRuntime) -> Result<(), Fail> {
     let bank = TableBank::new(&TABLES, &CELLS);
     for pinned in PINNED.iter() {
         let Pinned(_, _, nodes, plans) = *pinned;
-        for (filter, nodes) in FILTERS.iter().zip(nodes.iter()) {
+        for (filter, nodes) in Nfc::ALL.iter().zip(nodes.iter()) {
             let Some(shown) = pinned_listing(&bank, *pinned, *filter) else {
                 return Err(Fail::new("a wrong answer"));
             };
@@ -226,7 +217,7 @@ fn wide() -> [u32; 32] {
 #[test]
 fn thirty_two_blocks(rt: HostRuntime) {
     let bank = RuleBank::new(&PAIRS);
-    for filter in FILTERS.iter() {
+    for filter in Nfc::ALL.iter() {
         let mut filter = *filter;
         let mut session = Session::blank();
         assert!(rt; session.open(&bank, &wide()).is_ok());

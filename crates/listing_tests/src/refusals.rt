@@ -22,29 +22,36 @@ const PAST: [RuleRecord; 1] = [RuleRecord {
     blocks: [0, 3, 0, 0, 0, 0],
 }];
 
-// The number of a refusal, or 0 for none.
-fn number(answer: Result<(), Refusal>) -> u8 {
-    match answer {
-        Ok(()) => 0,
-        Err(refusal) => refusal.number(),
-    }
+// How a next ends, and whether the place stayed as it was.
+fn asked<B: Bank>(
+    session: &mut Session,
+    bank: &B,
+    budget: u32,
+    long: usize,
+) -> (Result<Outcome, Refusal>, bool) {
+    let mut place = [99; 3];
+    let part = &mut place[0..long.min(3)];
+    let answer = session.next(bank, &mut Nfc::Nfc2, budget, part);
+    (answer.map(|(outcome, _)| outcome), place == [99; 3])
 }
 
-// What a next answers, as one number: a refusal's, or 10 and more; and whether the place stayed as it was.
-fn asked<B: Bank>(session: &mut Session, bank: &B, budget: u32, long: usize) -> (u8, bool) {
-    let mut place = [99; 3];
-    let part = if long < 3 {
-        &mut place[0..long]
-    } else {
-        &mut place[0..3]
-    };
-    let answer = match session.next(bank, &mut Nfc::Nfc2, budget, part) {
-        Ok((Outcome::Plan, _)) => 10,
-        Ok((Outcome::Done, _)) => 11,
-        Ok((Outcome::Spent, _)) => 12,
-        Err(refusal) => refusal.number(),
-    };
-    (answer, place == [99; 3])
+const LEDGER: [Refusal; 9] = [
+    Refusal::Malformed,
+    Refusal::LimitExceeded,
+    Refusal::Repeated,
+    Refusal::PlaceTooShort,
+    Refusal::NotOpened,
+    Refusal::AlreadyOpened,
+    Refusal::OutOfRange,
+    Refusal::AlreadyPinned,
+    Refusal::BadBudget,
+];
+
+#[test]
+fn numbers_of_the_ledger(rt: HostRuntime) {
+    for (number, refusal) in (1u8..10).zip(LEDGER) {
+        assert_eq!(rt; u8::from(refusal), number);
+    }
 }
 
 // A session after its first plan, 0,1,0: two more slots of block 2 and the pair 1,0 are still to come.
@@ -72,16 +79,19 @@ fn of_a_blank_session(rt: HostRuntime) {
     let bank = RuleBank::new(&UNLIKE);
     let past = RuleBank::new(&PAST);
     let mut session = Session::blank();
-    assert_eq!(rt; number(session.pin(255, 255)), 5);
-    assert_eq!(rt; number(session.rewind()), 5);
-    assert_eq!(rt; asked(&mut session, &past, 0, 0), (5, true));
-    assert_eq!(rt; number(session.open(&past, &[])), 2);
-    assert_eq!(rt; number(session.open(&past, &[7; 33])), 2);
-    assert_eq!(rt; number(session.open(&past, &[7; 3])), 7);
+    assert_eq!(rt; session.pin(255, 255), Err(Refusal::NotOpened));
+    assert_eq!(rt; session.rewind(), Err(Refusal::NotOpened));
+    assert_eq!(rt;
+        asked(&mut session, &past, 0, 0),
+        (Err(Refusal::NotOpened), true)
+    );
+    assert_eq!(rt; session.open(&past, &[]), Err(Refusal::LimitExceeded));
+    assert_eq!(rt; session.open(&past, &[7; 33]), Err(Refusal::LimitExceeded));
+    assert_eq!(rt; session.open(&past, &[7; 3]), Err(Refusal::OutOfRange));
     // still blank
-    assert_eq!(rt; number(session.rewind()), 5);
-    assert_eq!(rt; number(session.open(&past, &[7; 4])), 0);
-    assert_eq!(rt; number(session.open(&bank, &[])), 6);
+    assert_eq!(rt; session.rewind(), Err(Refusal::NotOpened));
+    assert_eq!(rt; session.open(&past, &[7; 4]), Ok(()));
+    assert_eq!(rt; session.open(&bank, &[]), Err(Refusal::AlreadyOpened));
 }
 
 #[test]
@@ -91,12 +101,27 @@ fn of_next(rt: HostRuntime) -> Result<(), Fail> {
     let Some(mut session) = begun(&bank) else {
         return Err(Fail::new("no first plan"));
     };
-    assert_eq!(rt; asked(&mut session, &past, 0, 2), (9, true));
-    assert_eq!(rt; asked(&mut session, &past, 1_000_001, 2), (9, true));
-    assert_eq!(rt; asked(&mut session, &past, 1, 2), (4, true));
-    assert_eq!(rt; asked(&mut session, &past, 1_000_000, 3), (7, true));
+    assert_eq!(rt;
+        asked(&mut session, &past, 0, 2),
+        (Err(Refusal::BadBudget), true)
+    );
+    assert_eq!(rt;
+        asked(&mut session, &past, 1_000_001, 2),
+        (Err(Refusal::BadBudget), true)
+    );
+    assert_eq!(rt;
+        asked(&mut session, &past, 1, 2),
+        (Err(Refusal::PlaceTooShort), true)
+    );
+    assert_eq!(rt;
+        asked(&mut session, &past, 1_000_000, 3),
+        (Err(Refusal::OutOfRange), true)
+    );
     assert!(rt; stands_after_first(session, &bank));
-    assert_eq!(rt; asked(&mut session, &bank, 1_000_000, 3), (10, false));
+    assert_eq!(rt;
+        asked(&mut session, &bank, 1_000_000, 3),
+        (Ok(Outcome::Plan), false)
+    );
     Ok(())
 }
 
@@ -106,31 +131,31 @@ fn of_pin(rt: HostRuntime) -> Result<(), Fail> {
     let Some(mut session) = begun(&bank) else {
         return Err(Fail::new("no first plan"));
     };
-    assert_eq!(rt; number(session.pin(3, 0)), 7);
-    assert_eq!(rt; number(session.pin(255, 0)), 7);
-    assert_eq!(rt; number(session.pin(2, 32)), 7);
-    assert_eq!(rt; number(session.pin(2, 255)), 7);
-    assert_eq!(rt; number(session.pin(2, 3)), 7);
-    assert_eq!(rt; number(session.open(&bank, &[7; 3])), 6);
+    assert_eq!(rt; session.pin(3, 0), Err(Refusal::OutOfRange));
+    assert_eq!(rt; session.pin(255, 0), Err(Refusal::OutOfRange));
+    assert_eq!(rt; session.pin(2, 32), Err(Refusal::OutOfRange));
+    assert_eq!(rt; session.pin(2, 255), Err(Refusal::OutOfRange));
+    assert_eq!(rt; session.pin(2, 3), Err(Refusal::OutOfRange));
+    assert_eq!(rt; session.open(&bank, &[7; 3]), Err(Refusal::AlreadyOpened));
     assert!(rt; stands_after_first(session, &bank));
     // an accepted pin starts over, and the open mask stays
-    assert_eq!(rt; number(session.pin(0, 1)), 0);
+    assert_eq!(rt; session.pin(0, 1), Ok(()));
     let mut place = [99; 3];
     assert_eq!(rt;
         session.next(&bank, &mut Nfc::Nfc0, 100, &mut place),
         Ok((Outcome::Plan, 3))
     );
     assert!(rt; place == [1, 0, 0]);
-    assert_eq!(rt; number(session.pin(0, 2)), 7);
-    assert_eq!(rt; number(session.pin(0, 0)), 8);
-    assert_eq!(rt; number(session.pin(0, 1)), 8);
+    assert_eq!(rt; session.pin(0, 2), Err(Refusal::OutOfRange));
+    assert_eq!(rt; session.pin(0, 0), Err(Refusal::AlreadyPinned));
+    assert_eq!(rt; session.pin(0, 1), Err(Refusal::AlreadyPinned));
     assert_eq!(rt;
         session.next(&bank, &mut Nfc::Nfc0, 100, &mut place),
         Ok((Outcome::Plan, 1))
     );
     assert!(rt; place == [1, 0, 1]);
     // a rewind keeps the pin
-    assert_eq!(rt; number(session.rewind()), 0);
+    assert_eq!(rt; session.rewind(), Ok(()));
     assert_eq!(rt;
         session.next(&bank, &mut Nfc::Nfc0, 100, &mut place),
         Ok((Outcome::Plan, 3))

@@ -1,13 +1,13 @@
 -- Masks make a lawful row exactly where each block may have its masks.
-use Rattle.std.proofs.Common.{◌≡◌, ℕ, ◌<◌, ◌≤◌, Bool, true, false, not, ◌&&◌, ◌||◌, eqb, ltb, leb, List, length, get_or, take, sym, refl, ap, ◌∙◌, subst, ap₂, inl, inr, arith}
+use Rattle.std.proofs.Common.{◌≡◌, ℕ, ◌<◌, ◌≤◌, Bool, true, false, not, ◌&&◌, ◌||◌, eqb, ltb, leb, List, ◌++◌, length, get_or, sym, refl, ap, ◌∙◌, ap₂, inl, inr, arith}
 use lib.Bits.{and_le_l, and_zero_l, bit_and}
 use lib.Count.{ones, ones-le}
-use Rattle.std.proofs.lemmas.List.{get_or_past, take_all}
+use Rattle.std.proofs.lemmas.List.{get_or_past, take_at}
 use Rattle.std.proofs.lemmas.Bool.{and_from, and_parts, both_ways, cases_Bool, cases_eq, cases_lt, cond-false, cond-true, eq-eqb, eqb-false, eqb-true, le-leb, leb-true, lt-ltb, ltb-true, ne_eqb, not_from_false, not-true, or_cases, or_left, or_right}
 use Rattle.network.specs.Sheets.{has}
 use Rattle.network.specs.Rows.{row_of}
 use Rattle.network.specs.Laws.{Bounded, LawfulRow}
-use Rattle.network.specs.RowModel.{given, may_have}
+use Rattle.network.specs.RowModel.{MayStand, given, may_have}
 use Rattle.network.proofs.Masks.{has_not, same_masks}
 use Rattle.network.proofs.Wiping.{empty_at, some_empty_at}
 use Rattle.network.proofs.MaskBits.{has_and}
@@ -58,13 +58,9 @@ stands o p f d s = elim (cases_eq f 0) [
       ]))
 ]
 
--- each block of the masks passes the test
-abbrev pub Stand : List ℕ → List ℕ → ℕ → ℕ → Type 0
-Stand os ps d n = (k : ℕ) → k < n → may_have (get_or os k 0) (get_or ps k 0) (get_or ps 0 0) (ltb k d) ≡ true
-
 module _ {os ps : List ℕ} {d : ℕ} where
   -- each block of a lawful row passes
-  pub lawful_stands : LawfulRow (given os ps d) → Stand os ps d (length os)
+  pub lawful_stands : LawfulRow (given os ps d) → MayStand os ps d
   lawful_stands lr k l = stands (get_or os k 0) (get_or ps k 0) (get_or ps 0 0) (ltb k d) (record {
     first_empty = λ e. lr.wiped (some_empty_at ps 0 (omega (arith, lr.as_many)) e) k;
     empty_first = λ e. lr.wiped (some_empty_at ps k (omega (arith, lr.as_many)) e) 0;
@@ -78,7 +74,7 @@ module _ {os ps : List ℕ} {d : ℕ} where
       narrower false w f = refl
 
   -- masks of which each block passes make a lawful row
-  pub stand_lawful : length os ≤ 32 → length ps ≡ length os → d ≤ length os → Bounded os → Bounded ps → Stand os ps d (length os) → LawfulRow (given os ps d)
+  pub stand_lawful : length os ≤ 32 → length ps ≡ length os → d ≤ length os → Bounded os → Bounded ps → MayStand os ps d → LawfulRow (given os ps d)
   stand_lawful few n within ob pb s = record {
     few = few;
     as_many = n;
@@ -98,22 +94,7 @@ module _ {os ps : List ℕ} {d : ℕ} where
       at : (k : ℕ) → k < length os → Standing (get_or os k 0) (get_or ps k 0) (get_or ps 0 0) (ltb k d)
       at k l = standing (get_or os k 0) (get_or ps k 0) (get_or ps 0 0) (ltb k d) (s k l)
 
--- what the loop that makes a row keeps: the masks so far are copied and pass
-pub record Copied (os ps : List ℕ) (d : ℕ) (xs ys : List ℕ) (n : ℕ) : Type 0 where
-  pub opened_size : length xs ≡ 32
-  pub present_size : length ys ≡ 32
-  pub opened : take n xs ≡ take n os
-  pub present : take n ys ≡ take n ps
-  pub stand : Stand os ps d n
-
-pub copied_all : {os ps xs ys : List ℕ} {d n : ℕ} → Copied os ps d xs ys n → length os ≤ n → n ≤ length os → Copied os ps d xs ys (length os)
-copied_all {os} {ps} {xs} {ys} {d} c l k = subst (Copied os ps d xs ys) (omega arith) c
-
--- the row that it leaves
-pub copied_row : {os ps xs ys : List ℕ} {d : ℕ} → length ps ≡ length os → Copied os ps d xs ys (length os) → row_of (length os) d xs ys ≡ given os ps d
-copied_row {os} {ps} {xs} {ys} {d} n c =
-    ap₂ (λ a b. record { opened = a; present = b; decided = d }) (c.opened ∙ take_all (length os) os (omega arith)) (c.present ∙ take_all (length os) ps (omega arith))
-
-pub copied_lawful : {os ps xs ys : List ℕ} {d : ℕ} → length os ≤ 32 → length ps ≡ length os → d ≤ length os → Bounded os → Bounded ps →
-    Copied os ps d xs ys (length os) → LawfulRow (row_of (length os) d xs ys)
-copied_lawful few n within ob pb c = subst LawfulRow (sym (copied_row n c)) (stand_lawful few n within ob pb c.stand)
+-- the row of masks that are copied to the front of longer lists
+pub copied_row : {os ps xs ys : List ℕ} (zs ws : List ℕ) (d : ℕ) → xs ≡ os → ys ≡ ps → length ps ≡ length os → row_of (length os) d (xs ++ zs) (ys ++ ws) ≡ given os ps d
+copied_row {os} {ps} {xs} {ys} zs ws d e f n =
+    ap₂ (λ a b. record { opened = a; present = b; decided = d }) (take_at xs zs (length os) (ap length e) ∙ e) (take_at ys ws (length os) (ap length f ∙ n) ∙ f)

@@ -134,3 +134,7 @@ first_after m a t h e s l k =
 -- where there is no first slot, there is none
 pub first_past : (m a : ℕ) → first_of (slots_from m a) ≡ None → (s : ℕ) → a ≤ s → s < 32 → has m s ≡ false
 first_past m a e s l k = false_unless (has m s) (λ i. subst (In s) (first_none m a e) (in_from m a s l k i))
+
+-- the slots from one on begin with the first, and go on past it
+pub first_and_rest : (m a t : ℕ) → a ≤ 32 → Some t ≡ first_of (slots_from m a) → (t < 32) × (slots_from m a ≡ t ∷ slots_from m (t + 1))
+first_and_rest m a t h e = let f = first_here m a t h (sym e) in (f.1, f.3 ∙ ap (λ n. t ∷ slots_from m n) (sym (add-one t)))

@@ -1,22 +1,10 @@
 // What each filter leaves of the example's row after a first and a second decision.
+use crate::commas::Commas;
 use filters::nfc::Nfc;
 use network::bank::Bank;
 use network::filter::Filter;
 use network::row::Row;
 use std::io;
-
-// The present masks, with commas.
-fn masks(rt: &HostRuntime, row: &Row) -> io::Result<()> {
-    for block in 0..row.blocks() {
-        let mask = row.present_mask(block);
-        if block == 0 {
-            print!(rt; "present={mask}")?;
-        } else {
-            print!(rt; ",{mask}")?;
-        }
-    }
-    println!(rt)
-}
 
 // Block 0 takes slot 0, then block 1 takes slot 0, with the filter after each.
 fn two_decisions<B: Bank>(
@@ -25,23 +13,20 @@ fn two_decisions<B: Bank>(
     filter: &mut Nfc,
     row: &mut Row,
 ) -> io::Result<()> {
-    let number = filter.number();
-    println!(rt; "filter={number}")?;
+    println!(rt; "filter={}", u8::from(*filter))?;
     for _ in 0..2 {
         if row.decide(0) {
             filter.apply(bank, row);
-            masks(rt, row)?;
+            println!(rt; "present={}", Commas(row.present_masks()))?;
         }
     }
     Ok(())
 }
 
 pub(crate) fn show<B: Bank>(rt: &HostRuntime, bank: &B, opened: &[u32]) -> io::Result<()> {
-    for number in 0..6 {
-        if let (Some(mut filter), Some(mut row)) = (
-            Nfc::from_number(number),
-            Row::new(opened, opened, 0),
-        ) {
+    for filter in Nfc::ALL {
+        if let Some(mut row) = Row::new(opened, opened, 0) {
+            let mut filter = filter;
             two_decisions(rt, bank, &mut filter, &mut row)?;
         }
     }

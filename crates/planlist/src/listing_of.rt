@@ -1,4 +1,5 @@
 // The plans of a network, listed call by call.
+use crate::commas::Commas;
 use filters::nfc::Nfc;
 use listing::outcome::Outcome;
 use listing::session::Session;
@@ -12,30 +13,15 @@ const BUDGET: u32 = 20;
 const CALLS: u32 = 10;
 
 fn refused(rt: &HostRuntime, refusal: Refusal) -> io::Result<()> {
-    let number = refusal.number();
-    println!(rt; "refused={number}")
-}
-
-fn plan(rt: &HostRuntime, slots: &[u8]) -> io::Result<()> {
-    for (block, slot) in slots.iter().enumerate() {
-        if block == 0 {
-            print!(rt; "plan={slot}")?;
-        } else {
-            print!(rt; ",{slot}")?;
-        }
-    }
-    println!(rt)
+    println!(rt; "refused={}", u8::from(refusal))
 }
 
 fn outcome(rt: &HostRuntime, outcome: Outcome, slots: &[u8]) -> io::Result<()> {
-    match outcome {
-        Outcome::Plan => {
-            println!(rt; "outcome=plan")?;
-            plan(rt, slots)
-        }
-        Outcome::Done => println!(rt; "outcome=done"),
-        Outcome::Spent => println!(rt; "outcome=spent"),
+    println!(rt; "outcome={outcome}")?;
+    if let Outcome::Plan = outcome {
+        println!(rt; "plan={}", Commas(slots))?;
     }
+    Ok(())
 }
 
 // Calls `next` until it answers "done", and prints each answer and how many visits they report together.
@@ -49,29 +35,25 @@ fn calls<B: Bank>(
     let mut place = [0; 6];
     for _ in 0..CALLS {
         println!(rt; "next={BUDGET}")?;
-        match session.next(bank, filter, BUDGET, &mut place) {
-            Ok((answer, visits)) => {
-                outcome(rt, answer, &place)?;
-                println!(rt; "visits={visits}")?;
-                total = total.saturating_add(visits);
-                if let Outcome::Done = answer {
-                    break;
-                }
-            }
+        let (answer, visits) = match session.next(bank, filter, BUDGET, &mut place) {
+            Ok(answered) => answered,
             Err(refusal) => return refused(rt, refusal),
+        };
+        outcome(rt, answer, &place)?;
+        println!(rt; "visits={visits}")?;
+        total = total.saturating_add(visits);
+        if let Outcome::Done = answer {
+            break;
         }
     }
     println!(rt; "total={total}")
 }
 
 pub(crate) fn show<B: Bank>(rt: &HostRuntime, bank: &B, opened: &[u32]) -> io::Result<()> {
-    for number in 0..6 {
-        let Some(mut filter) = Nfc::from_number(number) else {
-            continue;
-        };
-        let blocks = opened.len();
-        println!(rt; "filter={number}")?;
-        println!(rt; "open={blocks}")?;
+    for filter in Nfc::ALL {
+        println!(rt; "filter={}", u8::from(filter))?;
+        println!(rt; "open={}", opened.len())?;
+        let mut filter = filter;
         let mut session = Session::blank();
         match session.open(bank, opened) {
             Ok(()) => calls(rt, &mut session, bank, &mut filter)?,

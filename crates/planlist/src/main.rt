@@ -1,6 +1,7 @@
 // Shows the example network: what its sheets support, what each filter leaves of a row, and its plans.
 #![tactic(auto)]
 
+mod commas;
 mod filtering;
 mod listing_of;
 mod sheets;

@@ -2,50 +2,23 @@
 ghost use Rattle.std.specs.Prelude.{◌≡◌, ℕ, ◌<◌, slice_index, slice_index_or};
 ghost use Rattle.network.specs.Sheets.{sheet_at};
 
+use crate::commas::Commas;
 use network::bank::Bank;
-use network::mask::{SLOTS, has_slot};
-use std::io;
+use network::mask::slots_of;
+use std::{array, io};
 
-// The open mask of a block, or an empty one for a block that isn't there.
-fn open_mask(opened: &[u32], block: u8) -> u32
-    ensures { result ≡ slice_index opened.now block }
-{
-    let block = block as usize;
-    if block < opened.len() {
-        opened[block]
-    } else {
-        0
-    }
-}
-
-// The open masks of a sheet's blocks, in the order of its scope.
+// The open masks of a sheet's blocks, in the order of its scope: empty for a block that isn't there.
 fn masks_of<B: Bank>(bank: &B, c: usize, opened: &[u32]) -> [u32; 6]
     ensures { (p : ℕ) → p < 6 → slice_index result p ≡ slice_index opened.now (slice_index_or (sheet_at (B.Bank.meaning bank.now) c).scope p 255) }
 {
     let mut masks = [0; 6];
     for p in 0..masks.len() {
-        masks[p] = open_mask(opened, bank.block(c, p));
+        masks[p] = opened.get(bank.block(c, p) as usize).copied().unwrap_or(0);
     }
     masks
 }
 
-// One number more of a list with commas.
-fn item(rt: &HostRuntime, first: bool, n: u8) -> io::Result<()> {
-    if first {
-        print!(rt; "{n}")
-    } else {
-        print!(rt; ",{n}")
-    }
-}
-
-fn scope<B: Bank>(rt: &HostRuntime, bank: &B, c: usize) -> io::Result<()> {
-    print!(rt; "scope=")?;
-    for p in 0..bank.arity(c) {
-        item(rt, p == 0, bank.block(c, p))?;
-    }
-    println!(rt)
-}
-
+// The slots of the position's mask that have a support there.
 fn position<B: Bank>(
     rt: &HostRuntime,
     bank: &B,
@@ -55,20 +28,18 @@ fn position<B: Bank>(
 ) -> io::Result<()>
     requires { p < 6 }
 {
-    print!(rt; "position={p} slots=")?;
-    let mut first = true;
-    for s in 0..SLOTS {
-        if has_slot(masks[p], s) && bank.supports(c, masks, p, s) {
-            item(rt, first, s)?;
-            first = false;
-        }
-    }
-    println!(rt)
+    let slots: Vec<u8> = slots_of(masks[p])
+        .filter(|s| bank.supports(c, masks, p, *s))
+        .collect(rt.alloc())?;
+    println!(rt; "position={p} slots={}", Commas(&slots))
 }
 
 fn sheet<B: Bank>(rt: &HostRuntime, bank: &B, c: usize, opened: &[u32]) -> io::Result<()> {
     println!(rt; "sheet={c}")?;
-    scope(rt, bank, c)?;
+    let scope: Vec<u8> = (0..bank.arity(c))
+        .map(|p| bank.block(c, p))
+        .collect(rt.alloc())?;
+    println!(rt; "scope={}", Commas(&scope))?;
     let masks = masks_of(bank, c, opened);
     for p in 0..masks.len().min(bank.arity(c)) {
         position(rt, bank, c, &masks, p)?;

@@ -1,8 +1,8 @@
 // What a row tells of itself, and how it is made, decided and narrowed.
-ghost use Rattle.std.specs.Prelude.{◌≡◌, suc, ◌&&◌, length, MatchBool, MatchOption, ◌==◌, nat_lt, slice_index};
+ghost use Rattle.std.specs.Prelude.{◌≡◌, ◌↔◌, IsTrue, suc, ◌&&◌, length, MatchBool, MatchOption, ◌==◌, nat_lt, slice_index};
 ghost use Rattle.network.specs.Laws.{LawfulRow};
 ghost use Rattle.network.specs.Offers.{first_of, slots_from};
-ghost use Rattle.network.specs.RowModel.{given, may_have, model};
+ghost use Rattle.network.specs.RowModel.{MayStand, given, may_have, model};
 ghost use Rattle.network.specs.Rows.{dead, decide, keep, next_mask};
 ghost use Rattle.network.specs.Sheets.{has};
 
@@ -19,6 +19,20 @@ fn may_have(opened: u32, present: u32, first: u32, decided: bool) -> bool
     present != 0 && present & opened == present && (!decided || present.count_ones() <= 1)
 }
 
+// Whether each block may have its masks, the first ones being decided.
+fn may_stand(opened: &[u32], present: &[u32], decided: usize) -> bool
+    requires { length opened.now ≡ length present.now }
+    ensures { IsTrue result ↔ MayStand opened.now present.now decided }
+{
+    let first = present.first().copied().unwrap_or(0);
+    opened.iter().zip(present).enumerate().all(|(block, (opened, present))| may_have(
+        *opened,
+        *present,
+        first,
+        block < decided,
+    ))
+}
+
 impl Row {
     // The row of these masks with so many blocks decided, if there is one.
     pub fn new(opened: &[u32], present: &[u32], decided: usize) -> Option<Row>
@@ -30,19 +44,31 @@ impl Row {
         }
         let mut opened_masks = [0; BLOCKS];
         let mut present_masks = [0; BLOCKS];
-        for block in 0..blocks {
-            if !may_have(opened[block], present[block], present[0], block < decided) {
-                return None;
-            }
-            opened_masks[block] = opened[block];
-            present_masks[block] = present[block];
+        if !may_stand(opened, present, decided) {
+            return None;
         }
+        opened_masks[..blocks].copy_from_slice(opened);
+        present_masks[..blocks].copy_from_slice(present);
         Some(Row {
             blocks,
             decided,
             opened: opened_masks,
             present: present_masks,
         })
+    }
+
+    // The open masks of its blocks.
+    pub fn opened_masks(&self) -> &[u32]
+        ensures { result.now ≡ (model self.now).opened }
+    {
+        &self.opened[..self.blocks]
+    }
+
+    // The present masks of its blocks.
+    pub fn present_masks(&self) -> &[u32]
+        ensures { result.now ≡ (model self.now).present }
+    {
+        &self.present[..self.blocks]
     }
 
     // How many blocks the row has.
@@ -63,22 +89,14 @@ impl Row {
     pub fn open_mask(&self, block: usize) -> u32
         ensures { result ≡ slice_index (model self.now).opened block }
     {
-        if block < self.blocks {
-            self.opened[block]
-        } else {
-            0
-        }
+        self.opened_masks().get(block).copied().unwrap_or(0)
     }
 
     // The present mask of a block: empty for a block that isn't there.
     pub fn present_mask(&self, block: usize) -> u32
         ensures { result ≡ slice_index (model self.now).present block }
     {
-        if block < self.blocks {
-            self.present[block]
-        } else {
-            0
-        }
+        self.present_masks().get(block).copied().unwrap_or(0)
     }
 
     // Whether every block is decided.
@@ -92,8 +110,8 @@ impl Row {
     pub fn is_dead(&self) -> bool
         ensures { result ≡ dead (model self.now) }
     {
-        for block in 0..self.blocks {
-            if self.present[block] == 0 {
+        for mask in self.present_masks() {
+            if *mask == 0 {
                 return true;
             }
         }

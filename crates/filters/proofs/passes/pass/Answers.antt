@@ -1,7 +1,7 @@
 use Rattle.std.proofs.Common.{◌<◌, length, arith}
 use Rattle.network.specs.RowModel.{model}
 use Rattle.network.proofs.CodeKeeps.{lawful_code}
-use Rattle.filters.proofs.Passing.{passed_as, passed_died, passed_end, passed_more, passed_other, passed_same}
+use Rattle.filters.proofs.Passing.{passed_as, passed_died, passed_more, passed_other, passed_same}
 use Rattle.filters.proofs.passes.pass.Goals as goal
 use Rattle.filters.proofs.passes.pass.Goals.{in-Narrowed, in-Unchanged}
 
@@ -26,9 +26,3 @@ loop-c-preserved g c =
       | in-Unchanged w ↦ passed_as w.effect-is (passed_same lr c.loop-c.invariant l e q c.narrow.ensures.row w.in-Unchanged.ensures.told)
       | in-Narrowed w ↦ passed_as w.effect-is (passed_more lr c.loop-c.invariant l e q c.narrow.ensures.row w.in-Narrowed.ensures.told)
     ]
-
-pub returns : goal.returns
-returns g c = record {
-  row = passed_end (lawful_code c.args.row.now) c.loop-c.invariant (omega (arith, c.count-c-end.ensures, c.loop-c-test.false));
-  told = c.loop-c.invariant.told;
-}

@@ -3,7 +3,7 @@ use Rattle.std.proofs.lemmas.List.{map_more, take_more_set}
 use Rattle.network.specs.RowModel.{model}
 use Rattle.network.specs.Sheets.{sheet_at}
 use Rattle.filters.specs.Readings.{mask_by}
-use Rattle.filters.proofs.Scopes.{at_most_six, gathered}
+use Rattle.filters.proofs.Scopes.{at_most_six}
 use Rattle.filters.proofs.reading.Reading.masks.Goals as goal
 
 pub offset_bounds-masks-p : goal.offset_bounds-masks-p
@@ -26,8 +26,3 @@ loop-p-preserved g c =
     let k = map_more f xs p 255 (omega (arith, c.arity-p-end.ensures, c.loop-p-test.true)) in
     let v = c.mask.ensures ∙ ap f c.block.ensures in
     (length-set c.loop-p.masks p c.mask.result ∙ c.loop-p.invariant.0, cc (e, k, v, c.loop-p.invariant.1))
-
-pub returns : goal.returns
-returns g c =
-    gathered (mask_by c.args.self (model c.args.row.now)) (sheet_at (g.B.Bank.meaning c.args.bank.now) c.args.c).scope c.loop-p.masks c.loop-p.p c.loop-p.invariant.1
-    (omega (arith, c.arity-p-end.ensures, c.loop-p-test.false)) (omega (arith, c.arity-p-end.ensures, c.loop-p.auto.p-end))

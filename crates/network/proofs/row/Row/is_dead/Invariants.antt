@@ -1,5 +1,5 @@
-use Rattle.std.proofs.Common.{◌≡◌, ℕ, ◌<◌, get_or}
+use Rattle.std.proofs.Common.{◌≡◌, ℕ, ◌<◌, slice_index}
 use Rattle.network.proofs.row.Row.is_dead.Given as goal
 
-abbrev pub invariant-loop-block : goal.invariant-loop-block
-invariant-loop-block l = (b : ℕ) → b < l.block → get_or l.self.present b 0 ≡ 0 → ⊥
+abbrev pub invariant-loop-mask : goal.invariant-loop-mask
+invariant-loop-mask l = (b : ℕ) → b < l.mask-index → slice_index l.mask-items b ≡ 0 → ⊥
