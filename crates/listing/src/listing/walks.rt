@@ -43,8 +43,7 @@ impl Listing {
         ensures front { take self.now.blocks place.new ≡ take self.now.blocks self.now.path }
         ensures back { drop self.now.blocks place.new ≡ drop self.now.blocks place.old }
     {
-        for block in 0..self.blocks {
-            place[block] = self.path[block];
-        }
+        let blocks = self.blocks;
+        place[..blocks].copy_from_slice(&self.path[..blocks]);
     }
 }

@@ -13,8 +13,7 @@ use crate::session::Session;
 use network::bank::Bank;
 use network::mask::has_slot;
 use network::refusal::Refusal;
-
-const BLOCKS: usize = 32;
+use network::row::BLOCKS;
 
 // Whether a session may have so many blocks.
 fn is_block_count(blocks: usize) -> bool
