@@ -40,11 +40,11 @@ pub record Copied (rs : List BlockRecord) (os ps : List ℕ) (i : ℕ) : Type 0 
   pub present : take i ps ≡ map record_mask (take i rs)
 
 -- the masks that it leaves, the present ones emptied where one of them is empty, are those of the root row
-pub root_made : (s : CodeListing) (os ps last : List ℕ) (i : ℕ) (b : Bool) → 0 < s.blocks → Copied s.records os ps i → i ≡ s.blocks → b ≡ list_any (λ m. eqb m 0) (take s.blocks ps) →
+pub root_made : (s : CodeListing) (os ps last : List ℕ) (i : ℕ) (b : Bool) → Copied s.records os ps i → i ≡ s.blocks → b ≡ list_any (λ m. eqb m 0) (take s.blocks ps) →
     ((b ≡ true) × (last ≡ replicate 32 0)) ⊎ ((b ≡ false) × (last ≡ ps)) → given (take s.blocks os) (take s.blocks last) 0 ≡ root (opened_of s) (pinned_of s)
-root_made s os ps last i b p v e t w =
+root_made s os ps last i b v e t w =
     ap₂ (λ x y. record { opened = x; present = y; decided = 0 }) (ap (λ j. take j os) (sym e) ∙ v.opened ∙ ap (λ j. masks_of (take j s.records)) e)
-    (shown ∙ ap wipe (sym (pinned_is (records_of s) (λ k l q. ((lawful_opening s p).pins k l q).0))))
+    (shown ∙ ap wipe (sym (pinned_is (records_of s) (λ k l q. ((lawful_opening s).pins k l q).0))))
   where
     ms : List ℕ
     ms = map record_mask (records_of s)
@@ -63,7 +63,7 @@ root_made s os ps last i b p v e t w =
     ]
 
 -- the row of such masks is there, and is the root row
-pub root_row : (s : CodeListing) (r : Row) (o : Option CodeRow) → 0 < s.blocks → r ≡ root (opened_of s) (pinned_of s) → MatchOption o (LawfulRow r → ⊥) (λ row. model row ≡ r) →
+pub root_row : (s : CodeListing) (r : Row) (o : Option CodeRow) → r ≡ root (opened_of s) (pinned_of s) → MatchOption o (LawfulRow r → ⊥) (λ row. model row ≡ r) →
     IsSome o × ((row : CodeRow) → o ≡ Some row → model row ≡ root (opened_of s) (pinned_of s))
-root_row s r None p e h = absurd (h (subst LawfulRow (sym e) (root_lawful (lawful_opening s p))))
-root_row s r (Some x) p e h = (refl, λ row q. ap (λ z. model z) (let z : row ≡ x = cc in z) ∙ h ∙ e)
+root_row s r None e h = absurd (h (subst LawfulRow (sym e) (root_lawful (lawful_opening s))))
+root_row s r (Some x) e h = (refl, λ row q. ap (λ z. model z) (let z : row ≡ x = cc in z) ∙ h ∙ e)

@@ -10,7 +10,6 @@ use network::row::{BLOCKS, Row};
 impl Listing {
     // Each block at its open mask, or at its pin alone. One empty mask empties all.
     pub(super) fn root(&self) -> Row
-        requires { 0 < self.now.blocks }
         ensures { model result ≡ root (opened_of self.now) (pinned_of self.now) }
     {
         let blocks = self.blocks;

@@ -16,7 +16,6 @@ impl Listing {
         filter: &mut F,
         budget: u32,
     ) -> (Outcome, u32)
-        requires { 0 < self.old.blocks }
         ensures walk { Continued self.old self.new (B.Bank.meaning bank.now) (F.Filter.filtered filter.old) budget result.0 result.1 }
         ensures meaning { F.Filter.filtered filter.new ≡ F.Filter.filtered filter.old }
     {
