@@ -1,6 +1,7 @@
 // An opened session: its blocks with their records, and the node that was visited last.
-ghost use Rattle.std.specs.Prelude.{◌≡◌, ℕ, ◌<◌, ◌≤◌, length, take, slice_index};
+ghost use Rattle.std.specs.Prelude.{◌≡◌, ◌≤◌, length, take};
 ghost use Rattle.listing.specs.Records.{masks_of, pins_of};
+ghost use Rattle.listing.specs.ToCome.{Slotted};
 ghost use Rattle.network.specs.Nesting.{LawfulOpening};
 
 use crate::record::BlockRecord;
@@ -22,6 +23,6 @@ pub struct Listing {
     ghost sized: { length (take blocks records) ≡ blocks },
     ghost lawful: { ∥ LawfulOpening (masks_of (take blocks records)) (pins_of (take blocks records)) ∥₁ },
     ghost deep: { depth ≤ blocks },
-    ghost long: { length (take depth path) ≡ depth },
-    ghost slots: { (k : ℕ) → slice_index (take depth path) k < 32 },
+    ghost room: { depth ≤ length path },
+    ghost slotted: { Slotted path depth },
 }

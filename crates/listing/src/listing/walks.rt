@@ -19,15 +19,7 @@ impl Listing {
         ensures walk { Continued self.old self.new (B.Bank.meaning bank.now) (F.Filter.filtered filter.old) budget result.0 result.1 }
         ensures meaning { F.Filter.filtered filter.new ≡ F.Filter.filtered filter.old }
     {
-        let root = self.root();
-        let path = self.path;
-        let mut walk = Walk {
-            rows: [root; 33],
-            path,
-            depth: 0,
-            from: 0,
-        };
-        walk.rebuild(bank, filter, self.depth);
+        let mut walk = Walk::after(self.root(), &self.path[..self.depth], bank, filter);
         let (outcome, visits) = walk.visit_nodes(bank, filter, budget);
         if visits > 0 {
             self.path = walk.path;

@@ -1,4 +1,4 @@
-use Rattle.std.proofs.Common.{length, refl, ap, ◌∙◌, arith}
+use Rattle.std.proofs.Common.{length, ap, ◌∙◌, arith}
 use Rattle.std.proofs.lemmas.List.{length-map}
 use Rattle.listing.specs.Records.{unpinned}
 use Rattle.listing.proofs.Records.{unpinned_lawful}
@@ -13,6 +13,6 @@ invariant_of-result c =
       sized = ap length e ∙ length-map ms unpinned;
       lawful = ∣ unpinned_lawful ms _ e c.requires.some c.requires.few (λ b. (c.type_inv.masks b).fits) ∣₁;
       deep = omega arith;
-      long = refl;
-      slots = λ _. omega arith;
+      room = omega arith;
+      slotted = λ j l. absurd (omega arith);
     }

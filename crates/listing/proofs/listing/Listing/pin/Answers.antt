@@ -42,8 +42,8 @@ invariant_of-self c =
       sized = pinned_size s.records s.blocks b c.pin_at.new.self k c.pin_at.ensures s.sized;
       lawful = ∥∥₁_map s.lawful (pinned_lawful s.records s.blocks b c.pin_at.new.self k c.pin_at.ensures s.sized c.if-block-self.false (ltb-true k 32 f.0) f.1);
       deep = omega arith;
-      long = refl;
-      slots = λ _. omega arith;
+      room = omega arith;
+      slotted = λ j l. absurd (omega arith);
     }
 
 pub returns : goal.returns
