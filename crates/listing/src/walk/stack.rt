@@ -87,6 +87,7 @@ impl Walk {
     }
 
     // The next node: at the first slot that is left to the deepest row, or else past the path at the deepest row that has a slot left.
+    // A loop: a chain over the depths would have to carry the slot to go on from, which the path gives anew at each depth but the first.
     pub(super) fn next_child(&self) -> Option<Child>
         ensures { NextChild self.now result }
     {

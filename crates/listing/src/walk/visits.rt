@@ -20,10 +20,7 @@ impl Walk {
         ensures meaning { F.Filter.filtered filter.new ≡ F.Filter.filtered filter.old }
     {
         let mut visits = 0;
-        loop {
-            let Some(child) = self.next_child() else {
-                return (Outcome::Done, visits);
-            };
+        while let Some(child) = self.next_child() {
             if visits == budget {
                 return (Outcome::Spent, visits);
             }
@@ -33,5 +30,6 @@ impl Walk {
                 return (Outcome::Plan, visits);
             }
         }
+        (Outcome::Done, visits)
     }
 }

@@ -6,8 +6,8 @@ use Rattle.listing.proofs.walk.Walk.visit_nodes.Goals as goal
 pub loop-child-init : goal.loop-child-init
 loop-child-init g c = (refl, begin_walk (g.F.Filter.filtered c.args.filter.now (g.B.Bank.meaning c.args.bank.now)) c.args.budget c.args.self.now)
 
-pub returns-in_default : goal.returns-in_default
-returns-in_default g c =
+pub returns : goal.returns
+returns g c =
     let v = c.loop-child.invariant in
     let f = g.F.Filter.filtered c.args.filter.now (g.B.Bank.meaning c.args.bank.now) in
     record { walked = finish_done f _ _ _ c.loop-child.self c.loop-child.visits v.1 (c.in_default.ensures f); meaning = v.0 }
