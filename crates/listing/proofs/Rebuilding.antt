@@ -7,7 +7,7 @@ use Rattle.network.specs.RowModel.{model}
 use Rattle.network.specs.Tree.{below}
 use Rattle.listing.specs.Model.{left_after}
 use Rattle.listing.specs.ToCome.{models, row_at, to_come, width}
-use Rattle.listing.specs.Walked.{coming_from}
+use Rattle.listing.specs.Walked.{coming, coming_from}
 use Rattle.listing.specs.declared.walk.Walk.{Walk}
 use Rattle.listing.proofs.Rebuild.{left_at, rebuilt_all, rebuilt_more, rebuilt_part, same_start}
 use Rattle.listing.proofs.StackRows.{lawful_at}
@@ -33,8 +33,8 @@ module _ (f : Row → Row) (root : Row) (path : List ℕ) (w : Walk) (v : Rebuil
   at_width a = sym (ap (λ n. to_come f n (models w.rows) w.path w.depth a) v.wide ∙ same_start f (length root.opened) (models w.rows) path w.path w.depth a v.along)
 
   -- along the whole path
-  pub stop_all : w.depth ≡ length path → coming_from f w 0 ≡ left_after path (below f (length root.opened) [] root)
-  stop_all e = sym (v.left ∙ rebuilt_all f (length root.opened) (models w.rows) path w.depth e ∙ at_width 0)
+  pub stop_all : w.depth ≡ length path → w.from ≡ 0 → coming f w ≡ left_after path (below f (length root.opened) [] root)
+  stop_all e z = sym (v.left ∙ rebuilt_all f (length root.opened) (models w.rows) path w.depth e ∙ at_width 0 ∙ ap (coming_from f w) (sym z))
 
   module _ (l : w.depth < length path) (s : ℕ) (is : s ≡ get_or path w.depth 0) (small : s < 32) where
     -- up to a row that lacks the slot

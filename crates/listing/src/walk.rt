@@ -8,7 +8,7 @@ mod stack;
 mod visits;
 
 // The root row, and one below it for each block.
-const ROWS: usize = BLOCKS + 1;
+pub(crate) const ROWS: usize = BLOCKS + 1;
 
 // A child of a row of the stack: how deep the row is, and the slot that its next block takes.
 #[derive(Clone, Copy)]
@@ -20,10 +20,10 @@ pub struct Child {
 // Row k has the path's first k slots decided, for k up to `depth`. The walk goes on from slot `from` of the deepest row's next block.
 #[derive(Drop)]
 pub struct Walk {
-    rows: [Row; ROWS],
+    pub rows: [Row; ROWS],
     pub path: [u8; BLOCKS],
     pub depth: usize,
-    from: u8,
+    pub from: u8,
     ghost deep: { depth ≤ 32 },
     ghost room: { depth ≤ length path },
     ghost slot: { from ≤ 32 },

@@ -4,9 +4,10 @@ ghost use Rattle.listing.specs.Represents.{Continued};
 
 use crate::listing::Listing;
 use crate::outcome::Outcome;
-use crate::walk::Walk;
+use crate::walk::{ROWS, Walk};
 use network::bank::Bank;
 use network::filter::Filter;
+use network::row::BLOCKS;
 
 impl Listing {
     // Walks on from the last node. It stays the last one where none is visited.
@@ -19,7 +20,13 @@ impl Listing {
         ensures walk { Continued self.old self.new (B.Bank.meaning bank.now) (F.Filter.filtered filter.old) budget result.0 result.1 }
         ensures meaning { F.Filter.filtered filter.new ≡ F.Filter.filtered filter.old }
     {
-        let mut walk = Walk::after(self.root(), &self.path[..self.depth], bank, filter);
+        let mut walk = Walk {
+            rows: [self.root(); ROWS],
+            path: [0; BLOCKS],
+            depth: 0,
+            from: 0,
+        };
+        walk.go_past(&self.path[..self.depth], bank, filter);
         let (outcome, visits) = walk.visit_nodes(bank, filter, budget);
         if visits > 0 {
             self.path = walk.path;

@@ -2,15 +2,15 @@
 ghost use Rattle.std.specs.Prelude.{◌≡◌, suc, ◌≤◌, [], not, ◌&&◌, length, ◌==◌, slice_set, Some};
 ghost use Rattle.listing.specs.Model.{left_after};
 ghost use Rattle.listing.specs.ToCome.{ChildOf, Slotted, models, row_at, width};
-ghost use Rattle.listing.specs.Walked.{NextChild, Visited, coming, coming_from};
+ghost use Rattle.listing.specs.Walked.{NextChild, Visited, coming};
 ghost use Rattle.network.specs.RowModel.{model};
 ghost use Rattle.network.specs.Rows.{dead, decide};
 ghost use Rattle.network.specs.Tree.{below};
 
-use crate::walk::{Child, ROWS, Walk};
+use crate::walk::{Child, Walk};
 use network::bank::Bank;
 use network::filter::Filter;
-use network::row::{BLOCKS, Row};
+use network::row::Row;
 
 // Whether a row shows a plan: it is live, and every block is decided.
 fn shows_plan(row: &Row) -> bool
@@ -22,49 +22,24 @@ fn shows_plan(row: &Row) -> bool
 // Bank and filter stand side by side in these calls: a struct that held the filter's `&mut` would have to promise, call by call, that it
 // still holds the same one.
 impl Walk {
-    // The walk over the nodes below the root that come after the path `last`.
-    pub(crate) fn after<B: Bank, F: Filter>(
-        root: Row,
-        last: &[u8],
-        bank: &B,
-        filter: &mut F,
-    ) -> Walk
-        requires start { (model root).decided ≡ 0 }
-        requires long { length last.now ≤ length (model root).opened }
-        requires slots { Slotted last.now (length last.now) }
-        ensures wide { width (models result.rows) ≡ length (model root).opened }
-        ensures left { coming (F.Filter.filtered filter.old (B.Bank.meaning bank.now)) result ≡ left_after last.now (below (F.Filter.filtered filter.old (B.Bank.meaning bank.now)) (length (model root).opened) [] (model root)) }
-        ensures meaning { F.Filter.filtered filter.new ≡ F.Filter.filtered filter.old }
-    {
-        let mut walk = Walk {
-            rows: [root; ROWS],
-            path: [0; BLOCKS],
-            depth: 0,
-            from: 0,
-        };
-        let from = walk.go_along(last, bank, filter);
-        walk.from = from;
-        walk
-    }
-
-    // Goes down from the root along a path, as far as the rows have its slots. Answers the slot of the deepest row that the walk goes on from.
-    fn go_along<B: Bank, F: Filter>(&mut self, last: &[u8], bank: &B, filter: &mut F) -> u8
+    // Goes down from the root along the path `last`, as far as the rows have its slots, and on past it.
+    pub(crate) fn go_past<B: Bank, F: Filter>(&mut self, last: &[u8], bank: &B, filter: &mut F)
         requires start { self.old.depth ≡ 0 }
+        requires first { self.old.from ≡ 0 }
         requires long { length last.now ≤ width (models self.old.rows) }
         requires slots { Slotted last.now (length last.now) }
-        ensures slot { result ≤ 32 }
         ensures wide { width (models self.new.rows) ≡ width (models self.old.rows) }
-        ensures left { coming_from (F.Filter.filtered filter.old (B.Bank.meaning bank.now)) self.new result ≡ left_after last.now (below (F.Filter.filtered filter.old (B.Bank.meaning bank.now)) (width (models self.old.rows)) [] (row_at (models self.old.rows) 0)) }
+        ensures left { coming (F.Filter.filtered filter.old (B.Bank.meaning bank.now)) self.new ≡ left_after last.now (below (F.Filter.filtered filter.old (B.Bank.meaning bank.now)) (width (models self.old.rows)) [] (row_at (models self.old.rows) 0)) }
         ensures meaning { F.Filter.filtered filter.new ≡ F.Filter.filtered filter.old }
     {
         for &slot in last {
             let depth = self.depth;
             if !self.rows[depth].offers(slot) {
-                return slot + 1;
+                self.from = slot + 1;
+                return;
             }
             self.descend(bank, filter, Child { depth, slot });
         }
-        0
     }
 
     // Goes down to a child: its row with the slot decided, filtered.

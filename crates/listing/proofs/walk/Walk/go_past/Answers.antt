@@ -5,7 +5,7 @@ use Rattle.listing.specs.ToCome.{models, row_at, width}
 use Rattle.listing.proofs.Rebuilding.{go_on, stop_all, stop_part}
 use Rattle.listing.proofs.StackRows.{has_read, lawful_at}
 use Rattle.listing.proofs.Stacking.{child_of}
-use Rattle.listing.proofs.walk.Walk.go_along.Goals as goal
+use Rattle.listing.proofs.walk.Walk.go_past.Goals as goal
 
 pub returns-then-not-offers-clause-left : goal.returns-then-not-offers-clause-left
 returns-then-not-offers-clause-left g c =
@@ -14,7 +14,7 @@ returns-then-not-offers-clause-left g c =
     let last = c.args.last.now in
     let s = get_or last c.loop-slot.slot-index 0 in
     let deep : length w.rows ≡ 33 = omega arith in
-    stop_part _ (row_at (models c.args.self.now.rows) 0) last w v.2 c.requires.long (omega (arith, v.1, c.loop-slot-test.true)) s (ap (λ k. get_or last k 0) (sym v.1)) (c.requires.slots c.loop-slot.slot-index c.loop-slot-test.true)
+    stop_part _ (row_at (models c.args.self.now.rows) 0) last w v.3 c.requires.long (omega (arith, v.1, c.loop-slot-test.true)) s (ap (λ k. get_or last k 0) (sym v.1)) (c.requires.slots c.loop-slot.slot-index c.loop-slot-test.true)
     (has_read w.rows w.depth c.index-self-depth.result s _ (omega (arith, deep, w.deep)) (c.requires.slots c.loop-slot.slot-index c.loop-slot-test.true) c.if-not-offers.ensures)
 
 pub descend-requires : goal.descend-requires
@@ -38,7 +38,8 @@ loop-slot-preserved g c =
     let e = c.descend.ensures in (
       e.meaning ∙ v.0,
       e.depth ∙ omega (arith, v.1, add-one c.loop-slot.slot-index),
-      go_on _ (row_at (models c.args.self.now.rows) 0) last w v.2 c.requires.long (omega (arith, v.1, c.loop-slot-test.true)) s (ap (λ k. get_or last k 0) (sym v.1)) (c.requires.slots c.loop-slot.slot-index c.loop-slot-test.true)
+      e.from,
+      go_on _ (row_at (models c.args.self.now.rows) 0) last w v.3 c.requires.long (omega (arith, v.1, c.loop-slot-test.true)) s (ap (λ k. get_or last k 0) (sym v.1)) (c.requires.slots c.loop-slot.slot-index c.loop-slot-test.true)
           (omega (arith, deep, v.1, c.loop-slot-test.true, c.requires.long, few)) (omega (arith, way, v.1, c.loop-slot-test.true, c.requires.long, few))
           (has_read w.rows w.depth c.index-self-depth.result s _ (omega (arith, deep, w.deep)) (c.requires.slots c.loop-slot.slot-index c.loop-slot-test.true) c.if-not-offers.ensures)
           c.descend.new.self (e.rows ∙ ap (λ (H : Filtering). set (models w.rows) (suc w.depth) (H m (decide (row_at (models w.rows) w.depth) s))) v.0) e.path e.depth,
@@ -47,4 +48,4 @@ loop-slot-preserved g c =
 pub returns-clause-left : goal.returns-clause-left
 returns-clause-left g c =
     let v = c.loop-slot.invariant in
-    stop_all _ (row_at (models c.args.self.now.rows) 0) c.args.last.now c.loop-slot.self v.2 c.requires.long (omega (arith, v.1, c.loop-slot-test.false, c.loop-slot.auto.slot-index-end))
+    stop_all _ (row_at (models c.args.self.now.rows) 0) c.args.last.now c.loop-slot.self v.3 c.requires.long (omega (arith, v.1, c.loop-slot-test.false, c.loop-slot.auto.slot-index-end)) v.2
