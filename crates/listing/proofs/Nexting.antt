@@ -20,8 +20,8 @@ use Rattle.listing.proofs.Visits.{walk_on}
 
 pub named_plan : (o : CodeOutcome) → outcome_named o ≡ plan → o ≡ Plan
 named_plan Plan e = refl
-named_plan Done e = let z : ◌≡◌ {A = ℕ} 0 1 = cc in absurd (omega arith)
-named_plan Spent e = let z : ◌≡◌ {A = ℕ} 0 1 = cc in absurd (omega arith)
+named_plan Done e = cc
+named_plan Spent e = cc
 
 -- a place stays where there is no plan
 pub kept_place : (o : CodeOutcome) (n : ℕ) (node place : List ℕ) → (o ≡ Plan → ⊥) → PlaceAt (outcome_named o) n node place place

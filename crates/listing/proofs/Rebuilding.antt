@@ -1,6 +1,6 @@
 -- What the loop keeps that takes up a walk along a path.
-use Rattle.std.proofs.Common.{◌≡◌, ℕ, suc, ◌+◌, ◌-◌, ◌<◌, ◌≤◌, true, false, List, [], ◌∷◌, ◌++◌, length, get_or, take, set, refl, sym, ap, ◌∙◌, subst, add-one, arith}
-use Rattle.std.proofs.lemmas.List.{append-nil, length-map, take_more, take_more_set}
+use Rattle.std.proofs.Common.{◌≡◌, ℕ, suc, ◌+◌, ◌<◌, ◌≤◌, true, false, List, [], ◌∷◌, ◌++◌, length, get_or, take, set, sym, ap, ◌∙◌, subst, add-one, arith}
+use Rattle.std.proofs.lemmas.List.{length-map, take_more, take_more_set}
 use Rattle.network.specs.Sheets.{has}
 use Rattle.network.specs.Rows.{Row, decide, next_mask}
 use Rattle.network.specs.RowModel.{model}
@@ -18,15 +18,6 @@ pub record Rebuilding (f : Row → Row) (root : Row) (path : List ℕ) (w : Walk
   pub wide : width (models w.rows) ≡ length root.opened
   pub along : take w.depth w.path ≡ take w.depth path
   pub left : left_after path (below f (length root.opened) [] root) ≡ left_at f (length root.opened) (models w.rows) path w.depth
-
-pub begin : (f : Row → Row) (path : List ℕ) (w : Walk) → w.depth ≡ 0 → Rebuilding f (row_at (models w.rows) 0) path w
-begin f path w d =
-    let rs = models w.rows in
-    record {
-      wide = refl;
-      along = ap (λ i. take i w.path) d ∙ sym (ap (λ i. take i path) d);
-      left = sym (ap (left_at f (width rs) rs path) d ∙ append-nil (left_after path (below f (width rs - 0) [] (row_at rs 0))) ∙ ap (λ i. left_after path (below f i [] (row_at rs 0))) (omega arith));
-    }
 
 module _ (f : Row → Row) (root : Row) (path : List ℕ) (w : Walk) (v : Rebuilding f root path w) (long : length path ≤ length root.opened) where
   at_width : (a : ℕ) → to_come f (length root.opened) (models w.rows) path w.depth a ≡ coming_from f w a

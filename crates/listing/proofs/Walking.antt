@@ -6,7 +6,7 @@ use Rattle.network.specs.Offers.{first_of}
 use Rattle.network.specs.Rows.{Row, dead, next_mask}
 use Rattle.network.specs.Tree.{Node, shows}
 use Rattle.network.proofs.SlotsFrom.{from_here}
-use Rattle.listing.specs.Model.{Outcome, done, plan, spent, visited}
+use Rattle.listing.specs.Model.{done, plan, visited}
 use Rattle.listing.specs.ToCome.{ComesFirst, models, past, rest_of, row_at, width}
 use Rattle.listing.specs.Walked.{Visited, Walked, at, coming, ends, reached, stops}
 use Rattle.listing.specs.declared.walk.Walk.{Walk}
@@ -65,12 +65,6 @@ count_more n b x xs e = simp e
 stops_more : (n b : ℕ) (last : List ℕ) (x : Node) (xs : List Node) → shows n x ≡ false → stops n (suc b) last (x ∷ xs) ≡ stops n b x.path xs
 stops_more n b last x xs e = simp e
 
-not_plan : (o : Outcome) → o ≡ done → o ≡ plan → ⊥
-not_plan o p q = let z : ◌≡◌ {A = ℕ} 0 1 = cc in omega arith
-
-not_plan_spent : (o : Outcome) → o ≡ spent → o ≡ plan → ⊥
-not_plan_spent o p q = let z : ◌≡◌ {A = ℕ} 0 1 = cc in omega arith
-
 -- there is a node to come where there is a next child
 some_left : (f : Row → Row) (w : Walk) (j s : ℕ) → ComesFirst (models w.rows) w.path w.depth w.from j s → (x : Node) × (ys : List Node) × (coming f w ≡ x ∷ ys)
 some_left f w j s p =
@@ -93,7 +87,7 @@ module _ (f : Row → Row) (n : ℕ) (xs : List Node) (budget : ℕ) (w : Walk) 
     outcome = sym (h.outcome ∙ ap (ends n (budget - v)) e ∙ ends_none n (budget - v));
     visits = sym (h.count ∙ ap (λ z. v + length (visited n (budget - v) z)) e ∙ ap (λ z. v + length z) (visited_none n (budget - v)) ∙ add-zero v);
     stop = λ last. h.stop last ∙ ap (stops n (budget - v) (reached v last (take w.depth w.path))) e ∙ ap (fold (λ _ x. x.path) (reached v last (take w.depth w.path))) (visited_none n (budget - v));
-    whole = λ p. absurd (not_plan done refl p);
+    whole = λ p. cc;
   }
 
   pub finish_spent : v ≡ budget → (j s : ℕ) → ComesFirst (models w.rows) w.path w.depth w.from j s → Walked n xs budget w Spent v
@@ -105,7 +99,7 @@ module _ (f : Row → Row) (n : ℕ) (xs : List Node) (budget : ℕ) (w : Walk) 
         outcome = sym (h.outcome ∙ ap (ends n (budget - v)) p.2 ∙ ap (λ b. ends n b (p.0 ∷ p.1)) z);
         visits = sym (h.count ∙ ap (λ b. v + length (visited n b (coming f w))) z ∙ add-zero v);
         stop = λ last. h.stop last ∙ ap (λ b. stops n b (reached v last (take w.depth w.path)) (coming f w)) z;
-        whole = λ q. absurd (not_plan_spent spent refl q);
+        whole = λ q. cc;
       }
 
   module _ (u : v ≢ budget) (t : Walk) (b : Bool) (k : Visited f w t b) where

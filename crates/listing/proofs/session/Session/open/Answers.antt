@@ -33,12 +33,6 @@ returns-then-has_misfit g c =
     let e = open_misfit s m ms (none_of s.listing (sym c.if-is_some.ensures)) k.0 k.1 (sym c.if-has_misfit.ensures) in
     record { step = e; runs = open_runs s s _ m ms (g.B.Bank.lawful c.args.bank.now) e; refused = refl }
 
-pub new-requires : goal.new-requires
-new-requires g c =
-    let n = length c.args.masks.now in
-    let k = counted n (not-true (eqb n 0 || ltb 32 n) (sym c.if-not-is_block_count.ensures)) in
-    record { some = k.0; few = k.1 }
-
 pub returns : goal.returns
 returns g c =
     let s = c.args.self.now in
