@@ -1,5 +1,5 @@
 -- What the loop of a walk keeps, and how it ends.
-use Rattle.std.proofs.Common.{◌≡◌, ℕ, zero, suc, ◌+◌, ◌-◌, ◌<◌, ◌≤◌, Bool, true, false, eqb, ◌≢◌, not, List, [], ◌∷◌, ◌++◌, length, take, fold, sym, refl, ap, ◌∙◌, add-zero, zero-add, arith}
+use Rattle.std.proofs.Common.{◌≡◌, ℕ, zero, suc, ◌+◌, ◌-◌, ◌<◌, ◌≤◌, Bool, true, false, eqb, ◌≢◌, not, List, [], ◌∷◌, ◌++◌, length, take, fold, sym, refl, ap, ◌∙◌, add-zero, arith}
 use Rattle.std.proofs.lemmas.List.{length-take-le}
 use Rattle.std.proofs.lemmas.Bool.{and_parts, cond-false, eqb-true, ne_eqb}
 use Rattle.network.specs.Offers.{first_of}
@@ -22,18 +22,6 @@ pub record Walking (f : Row → Row) (n : ℕ) (xs : List Node) (budget : ℕ) (
   pub outcome : ends n budget xs ≡ ends n (budget - v) (coming f w)
   pub count : length (visited n budget xs) ≡ v + length (visited n (budget - v) (coming f w))
   pub stop : (last : List ℕ) → stops n budget last xs ≡ stops n (budget - v) (reached v last (take w.depth w.path)) (coming f w)
-
-pub begin_walk : (f : Row → Row) (budget : ℕ) (w : Walk) → Walking f (width (models w.rows)) (coming f w) budget w 0
-begin_walk f budget w =
-    let n = width (models w.rows) in
-    let e : budget ≡ budget - 0 = omega arith in
-    record {
-      wide = refl;
-      under = omega arith;
-      outcome = ap (λ b. ends n b (coming f w)) e;
-      count = ap (λ b. length (visited n b (coming f w))) e ∙ sym (zero-add (length (visited n (budget - 0) (coming f w))));
-      stop = λ last. ap (λ b. stops n b last (coming f w)) e;
-    }
 
 -- a visit is at another node
 reached_more : (v : ℕ) (last path : List ℕ) → path ≡ reached (v + 1) last path

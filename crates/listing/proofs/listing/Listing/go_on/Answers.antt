@@ -12,4 +12,3 @@ invariant_of-self g c =
     let n = c.visit_nodes-outcome.ensures.walked.wide ∙ c.go_past.ensures.wide ∙ ap (λ r. length r.opened) c.root.ensures ∙ as_many_masks s in
     let low = stack_low (width (models u.rows)) (models u.rows) u.depth (lawful_at u.rows u.depth) u.stacked in
     record { few = s.few; sized = s.sized; lawful = s.lawful; deep = omega (arith, low, n); room = u.room; slotted = u.slotted }
-

@@ -6,9 +6,6 @@ use Rattle.listing.proofs.StackRows.{read}
 use Rattle.listing.proofs.Visiting.{visited}
 use Rattle.listing.proofs.walk.Walk.visit.Goals as goal
 
-pub descend-requires : goal.descend-requires
-descend-requires g c = c.requires.child
-
 pub returns-clause-node : goal.returns-clause-node
 returns-clause-node g c =
     let w = c.args.self.now in
