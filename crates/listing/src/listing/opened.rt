@@ -7,7 +7,8 @@ use crate::listing::Listing;
 use crate::record::BlockRecord;
 use network::row::BLOCKS;
 
-// The records of blocks with these open masks and no pin.
+// The records of blocks with these open masks and no pin. They are set by their numbers: of what a zip with `iter_mut` writes, a proof
+// knows the length alone.
 fn unpinned_records(masks: &[u32]) -> [BlockRecord; BLOCKS]
     requires { length masks.now ≤ 32 }
     ensures { take (length masks.now) result ≡ map unpinned masks.now }
