@@ -104,6 +104,3 @@ pub go_up : (f : Row → Row) (n : ℕ) (rs : List Row) (path : List ℕ) (k a :
 go_up f n rs path k a h e =
     let i : k ≡ suc (k - 1) = omega arith in
     climb f n rs path k a e ∙ ap (past f n rs path) i ∙ ap (to_come f n rs path (k - 1)) (sym (add-one (get_or path (k - 1) 0)))
-
-pub at_top : (f : Row → Row) (n : ℕ) (rs : List Row) (path : List ℕ) (k a : ℕ) → k ≡ 0 → first_of (slots_from (next_mask (row_at rs k)) a) ≡ None → to_come f n rs path k a ≡ []
-at_top f n rs path k a h e = climb f n rs path k a e ∙ ap (past f n rs path) h

@@ -1,13 +1,13 @@
 -- What `next` refuses and answers.
-use Rattle.std.proofs.Common.{◌≡◌, ℕ, ◌<◌, ◌≤◌, true, false, cond, ◌||◌, eqb, ltb, List, [], ◌++◌, length, take, drop, sym, refl, ap, ◌∙◌, subst, ap₂, arith}
+use Rattle.std.proofs.Common.{◌≡◌, ℕ, ◌<◌, ◌≤◌, Some, true, false, cond, ◌||◌, eqb, ltb, List, [], ◌++◌, length, take, drop, sym, refl, ap, ◌∙◌, subst, ap₂, arith}
 use Rattle.std.proofs.lemmas.List.{take-append-drop}
 use Rattle.std.proofs.lemmas.Bool.{cond-false, cond-true, le-ltb, lt-ltb}
 use Rattle.network.specs.Sheets.{Sheet}
 use Rattle.network.specs.Filters.{Filtering}
 use Rattle.network.proofs.TreeOrder.{tree_ascends}
-use Rattle.listing.specs.Model.{blank, done, if_plan, Listing, listing, misfits, next_call, next_step, outcome, Outcome, plan, refuse, refused, spent, step, Step, stop, walk, walked}
+use Rattle.listing.specs.Model.{Call, done, if_plan, Listing, listing, misfits, next_call, next_step, outcome, Outcome, plan, refuse, refused, spent, step, Step, stop, walk, walked}
 use Rattle.listing.specs.Runs.{WalksOn}
-use Rattle.listing.specs.Represents.{Continued, Keeps, Meets, PlaceAt, Takes, last_of, nodes_of, opened_of, pinned_of, records_of}
+use Rattle.listing.specs.Represents.{Continued, GoesOn, Keeps, Leads, Meets, PlaceAt, Takes, WalksAlong, blocks_in, blocks_of, last_of, nodes_of, opened_of, pinned_of, records_of}
 use Rattle.listing.specs.Records.{masks_of, pins_of}
 use Rattle.listing.specs.Walked.{outcome_named}
 use Rattle.listing.specs.declared.outcome.Outcome.{Outcome as CodeOutcome}
@@ -15,12 +15,13 @@ use Rattle.listing.specs.declared.outcome.Outcome.TheVariants.{Done, Plan, Spent
 use Rattle.listing.specs.declared.listing.Listing.{Listing as CodeListing}
 use Rattle.listing.specs.declared.session.Session.{Session}
 use Rattle.listing.proofs.Records.{as_many_masks}
+use Rattle.listing.proofs.Sessions.{opened, refusal}
 use Rattle.listing.proofs.Visits.{walk_on}
 
 pub named_plan : (o : CodeOutcome) → outcome_named o ≡ plan → o ≡ Plan
 named_plan Plan e = refl
-named_plan Done e = let z : ◌≡◌ {A = ℕ} 0 1 = cc in absurd (omega arith)
-named_plan Spent e = let z : ◌≡◌ {A = ℕ} 0 1 = cc in absurd (omega arith)
+named_plan Done e = cc
+named_plan Spent e = cc
 
 -- a place stays where there is no plan
 pub kept_place : (o : CodeOutcome) (n : ℕ) (node place : List ℕ) → (o ≡ Plan → ⊥) → PlaceAt (outcome_named o) n node place place
@@ -62,76 +63,71 @@ walks_along s t m f budget o v c place p =
     (walk_on n budget old xs (tree_ascends f m (opened_of s) (pinned_of s))))))
 
 -- the refusals, in the order in which they are judged
-module _ (s : Session) (m : List Sheet) (f : Filtering) (budget room : ℕ) where
-  pub next_unopened : s.listing.blocks ≡ 0 → Takes s s (next_call m f budget room) (refused 5)
-  next_unopened z blank h = record { state = h; answer = refl }
-  next_unopened z (listing l) h = absurd (omega (arith, h.some))
+module _ (s : CodeListing) (m : List Sheet) (f : Filtering) (budget room : ℕ) where
+  abbrev if_fit : Listing → Step
+  if_fit l = cond (misfits (length l.opened) m) (refuse (listing l) 7) (next_step l m f budget)
 
-  module _ (some : s.listing.blocks ≡ 0 → ⊥) where
-    abbrev if_fit : Listing → Step
-    if_fit l = cond (misfits (length l.opened) m) (refuse (listing l) 7) (next_step l m f budget)
+  abbrev if_room : Listing → Step
+  if_room l = cond (ltb room (length l.opened)) (refuse (listing l) 4) (if_fit l)
 
-    abbrev if_room : Listing → Step
-    if_room l = cond (ltb room (length l.opened)) (refuse (listing l) 4) (if_fit l)
+  pub next_budget : (eqb budget 0 || ltb 1000000 budget) ≡ true → Leads s s (next_call m f budget room) (refused 9)
+  next_budget e = refusal s (next_call m f budget room) 9 (λ l h. cond-true (eqb budget 0 || ltb 1000000 budget) (refuse (listing l) 9) (if_room l) e)
 
-    pub next_budget : (eqb budget 0 || ltb 1000000 budget) ≡ true → Takes s s (next_call m f budget room) (refused 9)
-    next_budget e blank h = absurd (some h)
-    next_budget e (listing l) h =
-        subst (Meets s (refused 9)) (sym (cond-true (eqb budget 0 || ltb 1000000 budget) (refuse (listing l) 9) (if_room l) e)) (record { state = h; answer = refl })
+  module _ (allowed : (eqb budget 0 || ltb 1000000 budget) ≡ false) where
+    size : (l : Listing) → Keeps s l → length l.opened ≡ s.blocks
+    size l h = ap length h.opened ∙ as_many_masks s
 
-    module _ (allowed : (eqb budget 0 || ltb 1000000 budget) ≡ false) where
-      size : (l : Listing) → Keeps s.listing l → length l.opened ≡ s.listing.blocks
-      size l h = ap length h.opened ∙ as_many_masks s.listing
+    after_budget : (l : Listing) → step (listing l) (next_call m f budget room) ≡ if_room l
+    after_budget l = cond-false (eqb budget 0 || ltb 1000000 budget) (refuse (listing l) 9) (if_room l) allowed
 
-      after_budget : (l : Listing) → step (listing l) (next_call m f budget room) ≡ if_room l
-      after_budget l =
-          cond-false (eqb budget 0 || ltb 1000000 budget) (refuse (listing l) 9) (if_room l) allowed
+    pub next_short : room < s.blocks → Leads s s (next_call m f budget room) (refused 4)
+    next_short r = refusal s (next_call m f budget room) 4
+        (λ l h. after_budget l ∙ cond-true (ltb room (length l.opened)) (refuse (listing l) 4) (if_fit l) (lt-ltb room (length l.opened) (omega (arith, size l h))))
 
-      pub next_short : room < s.listing.blocks → Takes s s (next_call m f budget room) (refused 4)
-      next_short r blank h = absurd (some h)
-      next_short r (listing l) h =
-          subst (Meets s (refused 4))
-          (sym (after_budget l ∙ cond-true (ltb room (length l.opened)) (refuse (listing l) 4) (if_fit l) (lt-ltb room (length l.opened) (omega (arith, size l h)))))
-          (record { state = h; answer = refl })
+    module _ (enough : s.blocks ≤ room) where
+      after_room : (l : Listing) → Keeps s l → step (listing l) (next_call m f budget room) ≡ if_fit l
+      after_room l h = after_budget l ∙ cond-false (ltb room (length l.opened)) (refuse (listing l) 4) (if_fit l) (le-ltb room (length l.opened) (omega (arith, size l h)))
 
-      module _ (enough : s.listing.blocks ≤ room) where
-        after_room : (l : Listing) → Keeps s.listing l → step (listing l) (next_call m f budget room) ≡ if_fit l
-        after_room l h = after_budget l ∙ cond-false (ltb room (length l.opened)) (refuse (listing l) 4) (if_fit l) (le-ltb room (length l.opened) (omega (arith, size l h)))
+      pub next_misfit : misfits s.blocks m ≡ true → Leads s s (next_call m f budget room) (refused 7)
+      next_misfit e = refusal s (next_call m f budget room) 7
+          (λ l h. after_room l h ∙ cond-true (misfits (length l.opened) m) (refuse (listing l) 7) (next_step l m f budget) (ap (λ n. misfits n m) (size l h) ∙ e))
 
-        pub next_misfit : misfits s.listing.blocks m ≡ true → Takes s s (next_call m f budget room) (refused 7)
-        next_misfit e blank h = absurd (some h)
-        next_misfit e (listing l) h =
-            subst (Meets s (refused 7))
-            (sym (after_room l h ∙ cond-true (misfits (length l.opened) m) (refuse (listing l) 7) (next_step l m f budget) (ap (λ n. misfits n m) (size l h) ∙ e)))
-            (record { state = h; answer = refl })
+      -- a walk is the model's step
+      pub next_accepted : misfits s.blocks m ≡ false → (t : CodeListing) (o : CodeOutcome) (v : ℕ) → Continued s t m f budget o v →
+          (place : List ℕ) → (outcome_named o ≡ plan → take s.blocks place ≡ take s.blocks t.path) →
+          Leads s t (next_call m f budget room) (walked (outcome_named o) v (if_plan (outcome_named o) (take s.blocks place) []))
+      next_accepted e t o v c place p l h =
+          let rs : records_of t ≡ records_of s = ap (λ n. take n t.records) c.blocks ∙ ap (take s.blocks) c.records in
+          let n : length (opened_of s) ≡ s.blocks = as_many_masks s in
+          let k : Listing = record { opened = opened_of s; pins = pinned_of s; last = last_of s; shown = l.shown } in
+          let same : l ≡ k =
+          ap (λ x. record { opened = x; pins = l.pins; last = l.last; shown = l.shown }) h.opened
+          ∙ ap (λ x. record { opened = opened_of s; pins = x; last = l.last; shown = l.shown }) h.pins
+          ∙ ap (λ x. record { opened = opened_of s; pins = pinned_of s; last = x; shown = l.shown }) h.last in
+          subst (Meets (Some t) (walked (outcome_named o) v (if_plan (outcome_named o) (take s.blocks place) [])))
+          (sym (after_room l h ∙ cond-false (misfits (length l.opened) m) (refuse (listing l) 7) (next_step l m f budget) (ap (λ i. misfits i m) (size l h) ∙ e) ∙ ap (λ z. next_step z m f budget) same))
+          (record {
+            state = record {
+              opened = sym (ap masks_of rs);
+              pins = sym (ap pins_of rs);
+              last = ap (λ i. stop i budget (last_of s) (nodes_of s m f)) n ∙ sym c.stop;
+            };
+            answer =
+                ap (λ y. walked (outcome_named o) v y) (shown_plan s t m f budget o v c place p)
+                ∙ ap (λ y. walked (outcome_named o) v (if_plan (outcome_named o) y [])) c.stop
+                ∙ ap (λ x. walked (outcome_named o) x (if_plan (outcome_named o) (stop s.blocks budget (last_of s) (nodes_of s m f)) [])) c.visits
+                ∙ ap (λ x. walked x (length (walk s.blocks budget (last_of s) (nodes_of s m f))) (if_plan x (stop s.blocks budget (last_of s) (nodes_of s m f)) [])) c.outcome
+                ∙ ap (λ i. walked (outcome i budget (last_of s) (nodes_of s m f)) (length (walk i budget (last_of s) (nodes_of s m f))) (if_plan (outcome i budget (last_of s) (nodes_of s m f)) (stop i budget (last_of s) (nodes_of s m f)) [])) (sym n);
+          })
 
-        -- a walk is the model's step
-        pub next_accepted : misfits s.listing.blocks m ≡ false → (t : Session) (o : CodeOutcome) (v : ℕ) → Continued s.listing t.listing m f budget o v →
-            (place : List ℕ) → (outcome_named o ≡ plan → take s.listing.blocks place ≡ take s.listing.blocks t.listing.path) →
-            Takes s t (next_call m f budget room) (walked (outcome_named o) v (if_plan (outcome_named o) (take s.listing.blocks place) []))
-        next_accepted e t o v c place p blank h = absurd (some h)
-        next_accepted e t o v c place p (listing l) h =
-            let q = s.listing in
-            let rs : records_of t.listing ≡ records_of q = ap (λ n. take n t.listing.records) c.blocks ∙ ap (take q.blocks) c.records in
-            let n : length (opened_of q) ≡ q.blocks = as_many_masks q in
-            let k : Listing = record { opened = opened_of q; pins = pinned_of q; last = last_of q; shown = l.shown } in
-            let same : l ≡ k =
-            ap (λ x. record { opened = x; pins = l.pins; last = l.last; shown = l.shown }) h.opened
-            ∙ ap (λ x. record { opened = opened_of q; pins = x; last = l.last; shown = l.shown }) h.pins
-            ∙ ap (λ x. record { opened = opened_of q; pins = pinned_of q; last = x; shown = l.shown }) h.last in
-            subst (Meets t (walked (outcome_named o) v (if_plan (outcome_named o) (take q.blocks place) [])))
-            (sym (after_room l h ∙ cond-false (misfits (length l.opened) m) (refuse (listing l) 7) (next_step l m f budget) (ap (λ i. misfits i m) (size l h) ∙ e) ∙ ap (λ z. next_step z m f budget) same))
-            (record {
-              state = record {
-                some = omega (arith, c.blocks, h.some);
-                opened = sym (ap masks_of rs);
-                pins = sym (ap pins_of rs);
-                last = ap (λ i. stop i budget (last_of q) (nodes_of q m f)) n ∙ sym c.stop;
-              };
-              answer =
-                  ap (λ y. walked (outcome_named o) v y) (shown_plan q t.listing m f budget o v c place p)
-                  ∙ ap (λ y. walked (outcome_named o) v (if_plan (outcome_named o) y [])) c.stop
-                  ∙ ap (λ x. walked (outcome_named o) x (if_plan (outcome_named o) (stop q.blocks budget (last_of q) (nodes_of q m f)) [])) c.visits
-                  ∙ ap (λ x. walked x (length (walk q.blocks budget (last_of q) (nodes_of q m f))) (if_plan x (stop q.blocks budget (last_of q) (nodes_of q m f)) [])) c.outcome
-                  ∙ ap (λ i. walked (outcome i budget (last_of q) (nodes_of q m f)) (length (walk i budget (last_of q) (nodes_of q m f))) (if_plan (outcome i budget (last_of q) (nodes_of q m f)) (stop i budget (last_of q) (nodes_of q m f)) [])) (sym n);
-            })
+-- what a walk of its listing says of a session
+module _ (s : Session) (q t : CodeListing) (is : s.listing ≡ Some q) (m : List Sheet) (f : Filtering) (budget : ℕ) (o : CodeOutcome) (v : ℕ) (place : List ℕ) where
+  pub session_takes : (c : Call) → Leads q t c (walked (outcome_named o) v (if_plan (outcome_named o) (take q.blocks place) [])) →
+      Takes s (record { listing = Some t }) c (walked (outcome_named o) v (if_plan (outcome_named o) (take (blocks_of s) place) []))
+  session_takes c h =
+      subst (λ n. Takes s (record { listing = Some t }) c (walked (outcome_named o) v (if_plan (outcome_named o) (take n place) []))) (sym (ap blocks_in is))
+      (opened s (record { listing = Some t }) q t c _ is refl h)
+
+  pub session_walks : WalksOn q.blocks budget (nodes_of q m f) (last_of q) (last_of t) (outcome_named o) v (if_plan (outcome_named o) (take q.blocks place) []) →
+      WalksAlong s (record { listing = Some t }) m f budget (walked (outcome_named o) v (if_plan (outcome_named o) (take (blocks_of s) place) []))
+  session_walks h = subst (λ z. GoesOn z (Some t) m f budget (outcome_named o) v (if_plan (outcome_named o) (take (blocks_in z) place) [])) (sym is) h

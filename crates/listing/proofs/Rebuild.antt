@@ -1,6 +1,6 @@
 -- The nodes left after a position, as a stack that is rebuilt along its path stands for them.
-use Rattle.std.proofs.Common.{◌≡◌, ℕ, zero, suc, ◌+◌, ◌-◌, ◌<◌, ◌≤◌, true, false, List, [], ◌∷◌, ◌++◌, length, get_or, take, drop, set, sym, ap, ◌∙◌, subst, ⊎_elim, add-one, arith}
-use Rattle.std.proofs.lemmas.List.{append_assoc, get_or-set_same, set-get_or, take-append-drop, take-take, take_more, drop_more, get_or-take}
+use Rattle.std.proofs.Common.{◌≡◌, ℕ, zero, suc, ◌+◌, ◌-◌, ◌<◌, ◌≤◌, true, false, List, [], ◌∷◌, ◌++◌, length, get_or, take, drop, set, refl, sym, ap, ◌∙◌, subst, ⊎_elim, add-one, arith}
+use Rattle.std.proofs.lemmas.List.{append_assoc, get_or-set_same, set-get_or, take_all, take-append-drop, take-take, take_more, drop_more, get_or-take}
 use Rattle.std.proofs.lemmas.Bool.{cond-false, cases_Bool}
 use Rattle.std.specs.List.{flat_map}
 use Rattle.network.specs.Sheets.{In, has}
@@ -10,11 +10,11 @@ use Rattle.network.specs.Tree.{Node, precedes, below}
 use Rattle.listing.specs.Model.{left_after}
 use Rattle.network.proofs.Members.{false_unless}
 use Rattle.network.proofs.Lists.{joined_same, kept_all, kept_joined, kept_none}
-use Rattle.network.proofs.Order.{precedes_asym, precedes_irrefl, by_first, same_start, before_extension}
+use Rattle.network.proofs.Order.{precedes_asym, precedes_irrefl, by_first, same_start as after_start, before_extension}
 use Rattle.network.proofs.SlotsFrom.{from_here, from_next, of_from}
 use Rattle.network.proofs.TreeOrder.{below_extends, branch_extends}
 use Rattle.listing.specs.ToCome.{row_at, branch, rest_of, past, to_come}
-use Rattle.listing.proofs.Advance.{below_is, deeper}
+use Rattle.listing.proofs.Advance.{below_is, deeper, past_same}
 
 module _ (f : Row → Row) (w : ℕ) (p : List ℕ) (r : Row) (s : ℕ) (q : List ℕ) where
   abbrev last : List ℕ
@@ -27,12 +27,12 @@ module _ (f : Row → Row) (w : ℕ) (p : List ℕ) (r : Row) (s : ℕ) (q : Lis
   earlier_none : (t : ℕ) → t < s → left_after last (branch f w p r t) ≡ []
   earlier_none t l =
       kept_none (λ x. precedes last x.path) (branch f w p r t)
-      (λ x i. let c = extends t x i in false_unless (precedes last x.path) (λ e. precedes_asym last x.path e (rw c.1 (same_start p (t ∷ c.0) (s ∷ q) (by_first t s c.0 q l)))))
+      (λ x i. let c = extends t x i in false_unless (precedes last x.path) (λ e. precedes_asym last x.path e (rw c.1 (after_start p (t ∷ c.0) (s ∷ q) (by_first t s c.0 q l)))))
 
   later_all : (t : ℕ) → s < t → left_after last (branch f w p r t) ≡ branch f w p r t
   later_all t l =
       kept_all (λ x. precedes last x.path) (branch f w p r t)
-      (λ x i. let c = extends t x i in rw c.1 (same_start p (s ∷ q) (t ∷ c.0) (by_first s t q c.0 l)))
+      (λ x i. let c = extends t x i in rw c.1 (after_start p (s ∷ q) (t ∷ c.0) (by_first s t q c.0 l)))
 
   own : (u : List ℕ) → precedes (p ++ (s ∷ u)) (p ++ (s ∷ [])) ≡ false
   own [] = false_unless (precedes (p ++ (s ∷ [])) (p ++ (s ∷ []))) (precedes_irrefl (p ++ (s ∷ [])))
@@ -93,50 +93,47 @@ kept_below f w p r =
     ∙ below_is f w p r
 
 -- a path at one of its slots
-pub split_path : (path : List ℕ) (d k : ℕ) → k < d → length (take d path) ≡ d → take d path ≡ take k path ++ (get_or path k 0 ∷ drop (k + 1) (take d path))
-split_path path d k l e =
-    sym (take-append-drop k (take d path))
-    ∙ ap (λ z. z ++ drop k (take d path)) (take-take k d path (omega arith))
-    ∙ ap (λ z. take k path ++ z) (drop_more (take d path) k 0 (omega arith) ∙ ap (λ z. z ∷ drop (k + 1) (take d path)) (get_or-take d path k 0 l))
+split_path : (path : List ℕ) (k : ℕ) → k < length path → path ≡ take k path ++ (get_or path k 0 ∷ drop (k + 1) path)
+split_path path k l = sym (take-append-drop k path) ∙ ap (λ z. take k path ++ z) (drop_more path k 0 l)
 
-module _ (f : Row → Row) (n : ℕ) (rs : List Row) (path : List ℕ) (d k : ℕ) (size : length (take d path) ≡ d) where
-  -- what is left after the path's first d slots, with the stack built to row k
+module _ (f : Row → Row) (n : ℕ) (rs : List Row) (path : List ℕ) (k : ℕ) where
+  -- what is left after a path, with the stack built along it to row k
   abbrev pub left_at : List Node
-  left_at = left_after (take d path) (below f (n - k) (take k path) (row_at rs k)) ++ past f n rs path k
+  left_at = left_after path (below f (n - k) (take k path) (row_at rs k)) ++ past f n rs path k
 
-  pub rebuilt_all : k ≡ d → left_at ≡ to_come f n rs path k 0
+  pub rebuilt_all : k ≡ length path → left_at ≡ to_come f n rs path k 0
   rebuilt_all e =
-      ap (λ z. left_after (take z path) (below f (n - k) (take k path) (row_at rs k)) ++ past f n rs path k) (sym e)
+      ap (λ z. left_after z (below f (n - k) (take k path) (row_at rs k)) ++ past f n rs path k) (sym (take_all k path (omega arith)))
       ∙ ap (λ z. z ++ past f n rs path k) (kept_below f (n - k) (take k path) (row_at rs k))
 
-  pub rebuilt_part : k < d → d ≤ n → get_or path k 0 < 32 → has (next_mask (row_at rs k)) (get_or path k 0) ≡ false → left_at ≡ to_come f n rs path k (suc (get_or path k 0))
+  pub rebuilt_part : k < length path → length path ≤ n → get_or path k 0 < 32 → has (next_mask (row_at rs k)) (get_or path k 0) ≡ false → left_at ≡ to_come f n rs path k (suc (get_or path k 0))
   rebuilt_part l u v e =
       let s : ℕ = get_or path k 0 in
       let w : n - k ≡ suc (n - suc k) = omega arith in
       ap (λ z. z ++ past f n rs path k) (
-      ap (λ z. left_after z (below f (n - k) (take k path) (row_at rs k))) (split_path path d k l size)
-      ∙ subst (λ i. left_after (take k path ++ (s ∷ drop (k + 1) (take d path))) (below f i (take k path) (row_at rs k)) ≡ rest_of f i (take k path) (row_at rs k) (suc s)) (sym w)
-      (kept_off f (n - suc k) (take k path) (row_at rs k) s (drop (k + 1) (take d path)) v e))
+      ap (λ z. left_after z (below f (n - k) (take k path) (row_at rs k))) (split_path path k l)
+      ∙ subst (λ i. left_after (take k path ++ (s ∷ drop (k + 1) path)) (below f i (take k path) (row_at rs k)) ≡ rest_of f i (take k path) (row_at rs k) (suc s)) (sym w)
+      (kept_off f (n - suc k) (take k path) (row_at rs k) s (drop (k + 1) path) v e))
 
-module _ (f : Row → Row) (n : ℕ) (rs : List Row) (path : List ℕ) (d k : ℕ) (size : length (take d path) ≡ d) (room : suc k < length rs) (way : k < length path) where
   -- one more row of the stack
   pub rebuilt_more :
-      k < d → d ≤ n → get_or path k 0 < 32 → dead (row_at rs k) ≡ false → has (next_mask (row_at rs k)) (get_or path k 0) ≡ true →
-      left_at f n rs path d k size ≡ left_at f n (set rs (suc k) (f (decide (row_at rs k) (get_or path k 0)))) path d (suc k) size
-  rebuilt_more l u v h e =
+      suc k < length rs → k < length path → length path ≤ n → get_or path k 0 < 32 → dead (row_at rs k) ≡ false → has (next_mask (row_at rs k)) (get_or path k 0) ≡ true →
+      left_at ≡ left_after path (below f (n - suc k) (take (suc k) path) (row_at (set rs (suc k) (f (decide (row_at rs k) (get_or path k 0)))) (suc k)))
+      ++ past f n (set rs (suc k) (f (decide (row_at rs k) (get_or path k 0)))) path (suc k)
+  rebuilt_more room l u v h e =
       let s : ℕ = get_or path k 0 in
       let r : Row = row_at rs k in
       let qs : List Row = set rs (suc k) (f (decide r s)) in
       let w : n - k ≡ suc (n - suc k) = omega arith in
-      let last : List ℕ = take k path ++ (s ∷ drop (k + 1) (take d path)) in
-      let same : take d path ≡ last = split_path path d k l size in
+      let last : List ℕ = take k path ++ (s ∷ drop (k + 1) path) in
+      let same : path ≡ last = split_path path k l in
       let step : left_after last (below f (n - k) (take k path) r) ≡ left_after last (below f (n - suc k) (take k path ++ (s ∷ [])) (f (decide r s))) ++ rest_of f (n - k) (take k path) r (suc s) =
       subst (λ i. left_after last (below f i (take k path) r) ≡ left_after last (below f (n - suc k) (take k path ++ (s ∷ [])) (f (decide r s))) ++ rest_of f i (take k path) r (suc s)) (sym w)
-      (kept_at f (n - suc k) (take k path) r s (drop (k + 1) (take d path)) h v e) in
-      let p : take (suc k) path ≡ take k path ++ (s ∷ []) = ap (λ i. take i path) (sym (add-one k)) ∙ take_more path k 0 way in
+      (kept_at f (n - suc k) (take k path) r s (drop (k + 1) path) h v e) in
+      let p : take (suc k) path ≡ take k path ++ (s ∷ []) = ap (λ i. take i path) (sym (add-one k)) ∙ take_more path k 0 l in
       let q : row_at qs (suc k) ≡ f (decide r s) = get_or-set_same rs (suc k) (f (decide r s)) (record { opened = []; present = []; decided = 0 }) room in
       let t : past f n qs path (suc k) ≡ rest_of f (n - k) (take k path) r (suc s) ++ past f n rs path k =
-      ap (λ z. past f n qs z (suc k)) (sym (set-get_or path k 0)) ∙ deeper f n rs path k s room way in
+      ap (λ z. past f n qs z (suc k)) (sym (set-get_or path k 0)) ∙ deeper f n rs path k s room l in
       ap (λ z. left_after z (below f (n - k) (take k path) r) ++ past f n rs path k) same
       ∙ ap (λ z. z ++ past f n rs path k) step
       ∙ append_assoc (left_after last (below f (n - suc k) (take k path ++ (s ∷ [])) (f (decide r s)))) (rest_of f (n - k) (take k path) r (suc s)) (past f n rs path k)
@@ -144,3 +141,14 @@ module _ (f : Row → Row) (n : ℕ) (rs : List Row) (path : List ℕ) (d k : �
       ∙ ap (λ z. left_after last (below f (n - suc k) z (f (decide r s))) ++ past f n qs path (suc k)) (sym p)
       ∙ ap (λ z. left_after last (below f (n - suc k) (take (suc k) path) z) ++ past f n qs path (suc k)) (sym q)
       ∙ ap (λ z. left_after z (below f (n - suc k) (take (suc k) path) (row_at qs (suc k))) ++ past f n qs path (suc k)) (sym same)
+
+-- what is to come depends on the path's first slots alone
+pub same_start : (f : Row → Row) (n : ℕ) (rs : List Row) (path way : List ℕ) (k a : ℕ) → take k way ≡ take k path → to_come f n rs way k a ≡ to_come f n rs path k a
+same_start f n rs path way k a e =
+    ap (λ z. rest_of f (n - k) z (row_at rs k) a ++ past f n rs way k) e
+    ∙ ap (λ z. rest_of f (n - k) (take k path) (row_at rs k) a ++ z)
+    (past_same f n rs rs path way k (λ j l. (
+      refl,
+      sym (get_or-take k way j 0 l) ∙ ap (λ z. get_or z j 0) e ∙ get_or-take k path j 0 l,
+      sym (take-take j k way (omega arith)) ∙ ap (take j) e ∙ take-take j k path (omega arith),
+    )))

@@ -25,8 +25,8 @@ opening_of ms ps h = record {
 }
 
 -- an opened session's masks and pins are lawful
-pub lawful_opening : (s : CodeListing) → 0 < s.blocks → LawfulOpening (opened_of s) (pinned_of s)
-lawful_opening s p = opening_of (opened_of s) (pinned_of s) (s.lawful p)
+pub lawful_opening : (s : CodeListing) → LawfulOpening (opened_of s) (pinned_of s)
+lawful_opening s = opening_of (opened_of s) (pinned_of s) s.lawful
 
 pub as_many_masks : (s : CodeListing) → length (opened_of s) ≡ s.blocks
 as_many_masks s = length-map (take s.blocks s.records) (λ r. r.opened) ∙ s.sized

@@ -1,15 +1,16 @@
 -- The root row that a session makes of its block records.
-use Rattle.std.proofs.Common.{◌≡◌, ℕ, suc, ◌-◌, ◌^◌, ◌<◌, ◌≤◌, Bool, true, false, ◌||◌, eqb, ltb, ◌⊎◌, List, [], ◌∷◌, ◌++◌, map, length, take, replicate, Some, None, Option, sym, refl, ap, ◌∙◌, subst, ap₂, inl, inr, arith}
+use Rattle.std.proofs.Common.{◌≡◌, IsSome, MatchOption, ℕ, suc, ◌^◌, ◌<◌, Bool, true, false, ◌||◌, eqb, ltb, ◌⊎◌, List, [], ◌∷◌, map, length, take, replicate, Some, None, Option, sym, refl, ap, ◌∙◌, subst, ap₂, inl, inr}
+use Rattle.std.specs.List.{list_any}
 use Rattle.std.proofs.lemmas.List.{length-map, take-replicate}
 use Rattle.std.proofs.lemmas.Bool.{cond-false, cond-true, lt-ltb}
-use Rattle.network.specs.Rows.{some_empty, wipe}
-use Rattle.network.specs.RowModel.{given}
+use Rattle.network.specs.Rows.{Row, some_empty, wipe}
+use Rattle.network.specs.RowModel.{given, model}
 use Rattle.network.specs.Tree.{pin_at, pinned, root}
 use Rattle.network.specs.Laws.{LawfulRow}
-use Rattle.network.specs.Nesting.{LawfulOpening}
 use Rattle.network.proofs.Deciding.{root_lawful}
 use Rattle.listing.specs.Records.{mask_under, masks_of, pins_of, record_mask}
-use Rattle.listing.specs.Represents.{opened_of, pinned_of}
+use Rattle.listing.specs.Represents.{opened_of, pinned_of, records_of}
+use Rattle.network.specs.declared.row.Row.{Row as CodeRow}
 use Rattle.listing.specs.declared.record.BlockRecord.{BlockRecord}
 use Rattle.listing.specs.declared.listing.Listing.{Listing as CodeListing}
 use Rattle.listing.proofs.Records.{lawful_opening}
@@ -23,55 +24,46 @@ pinned_is : (rs : List BlockRecord) → ((b s : ℕ) → pin_at (pins_of rs) b �
 pinned_is [] h = refl
 pinned_is (r ∷ rs) h = pinned_one r.opened r.pin (masks_of rs) (pins_of rs) (h 0) ∙ ap (λ l. record_mask r ∷ l) (pinned_is rs (λ b. h (suc b)))
 
--- one more mask
-pub some_empty_push : (xs : List ℕ) (x : ℕ) → some_empty (xs ++ (x ∷ [])) ≡ (some_empty xs || eqb x 0)
-some_empty_push [] x = flip (eqb x 0)
-  where
-    flip : (b : Bool) → (b || false) ≡ b
-    flip true = refl
-    flip false = refl
-some_empty_push (y ∷ ys) x = ap (λ b. eqb y 0 || b) (some_empty_push ys x) ∙ assoc (eqb y 0) (some_empty ys) (eqb x 0)
-  where
-    assoc : (a b c : Bool) → (a || (b || c)) ≡ ((a || b) || c)
-    assoc true b c = refl
-    assoc false b c = refl
+some_listed : (ms : List ℕ) → list_any (λ m. eqb m 0) ms ≡ some_empty ms
+some_listed [] = refl
+some_listed (m ∷ ms) = ap (λ b. eqb m 0 || b) (some_listed ms)
 
 map_zeros : (xs : List ℕ) → map {B = ℕ} (λ _. 0) xs ≡ replicate (length xs) 0
 map_zeros [] = refl
 map_zeros (x ∷ xs) = ap (λ l. 0 ∷ l) (map_zeros xs)
 
 -- what the loop over the records keeps
-pub record Copied (rs : List BlockRecord) (os ps : List ℕ) (d : Bool) (i : ℕ) : Type 0 where
+pub record Copied (rs : List BlockRecord) (os ps : List ℕ) (i : ℕ) : Type 0 where
   pub opened_size : length os ≡ 32
   pub present_size : length ps ≡ 32
   pub opened : take i os ≡ masks_of (take i rs)
   pub present : take i ps ≡ map record_mask (take i rs)
-  pub dead : d ≡ some_empty (map record_mask (take i rs))
 
-module _ {rs : List BlockRecord} {os ps : List ℕ} {d : Bool} {n : ℕ} (v : Copied rs os ps d n) (size : length (take n rs) ≡ n) (few : n ≤ 32) where
-  -- the present masks that it leaves, wiped where one is empty
-  present_made : (last : List ℕ) → ((d ≡ true) × (last ≡ replicate 32 0)) ⊎ ((d ≡ false) × (last ≡ ps)) → take n last ≡ wipe (map record_mask (take n rs))
-  present_made last (inl k) =
-      let ms : List ℕ = map record_mask (take n rs) in
-      ap (take n) k.1 ∙ take-replicate n 32 0 few ∙ ap (λ i. replicate i 0) (sym (length-map (take n rs) record_mask ∙ size)) ∙ sym (map_zeros ms)
-      ∙ sym (cond-true (some_empty ms) (map (λ _. 0) ms) ms (sym v.dead ∙ k.0))
-  present_made last (inr k) =
-      let ms : List ℕ = map record_mask (take n rs) in
-      ap (take n) k.1 ∙ v.present ∙ sym (cond-false (some_empty ms) (map (λ _. 0) ms) ms (sym v.dead ∙ k.0))
+-- the masks that it leaves, the present ones emptied where one of them is empty, are those of the root row
+pub root_made : (s : CodeListing) (os ps last : List ℕ) (i : ℕ) (b : Bool) → Copied s.records os ps i → i ≡ s.blocks → b ≡ list_any (λ m. eqb m 0) (take s.blocks ps) →
+    ((b ≡ true) × (last ≡ replicate 32 0)) ⊎ ((b ≡ false) × (last ≡ ps)) → given (take s.blocks os) (take s.blocks last) 0 ≡ root (opened_of s) (pinned_of s)
+root_made s os ps last i b v e t w =
+    ap₂ (λ x y. record { opened = x; present = y; decided = 0 }) (ap (λ j. take j os) (sym e) ∙ v.opened ∙ ap (λ j. masks_of (take j s.records)) e)
+    (shown ∙ ap wipe (sym (pinned_is (records_of s) (λ k l q. ((lawful_opening s).pins k l q).0))))
+  where
+    ms : List ℕ
+    ms = map record_mask (records_of s)
 
-  root_made : LawfulOpening (masks_of (take n rs)) (pins_of (take n rs)) → (last : List ℕ) → ((d ≡ true) × (last ≡ replicate 32 0)) ⊎ ((d ≡ false) × (last ≡ ps)) →
-      given (take n os) (take n last) 0 ≡ root (masks_of (take n rs)) (pins_of (take n rs))
-  root_made o last w =
-      ap₂ (λ a b. record { opened = a; present = b; decided = 0 }) v.opened
-      (present_made last w ∙ ap wipe (sym (pinned_is (take n rs) (λ b s e. (o.pins b s e).0))))
+    present : take s.blocks ps ≡ ms
+    present = ap (λ j. take j ps) (sym e) ∙ v.present ∙ ap (λ j. map record_mask (take j s.records)) e
 
--- the masks of an opened session make its root row
-pub root_of : (s : CodeListing) (os ps last : List ℕ) (d : Bool) (i : ℕ) → 0 < s.blocks → Copied s.records os ps d i → s.blocks ≤ i → i ≤ s.blocks →
-    ((d ≡ true) × (last ≡ replicate 32 0)) ⊎ ((d ≡ false) × (last ≡ ps)) → given (take (s.blocks - 0) os) (take (s.blocks - 0) last) 0 ≡ root (opened_of s) (pinned_of s)
-root_of s os ps last d i p v l u w =
-    let e : i ≡ s.blocks = omega arith in
-    let z : s.blocks - 0 ≡ s.blocks = omega arith in
-    ap (λ n. given (take n os) (take n last) 0) z ∙ root_made (subst (Copied s.records os ps d) e v) s.sized s.few (lawful_opening s p) last w
+    test : b ≡ some_empty ms
+    test = t ∙ ap (list_any (λ m. eqb m 0)) present ∙ some_listed ms
 
-pub root_row : (s : CodeListing) → 0 < s.blocks → LawfulRow (root (opened_of s) (pinned_of s))
-root_row s p = root_lawful (lawful_opening s p)
+    shown : take s.blocks last ≡ wipe ms
+    shown = elim w [
+      | inl k ↦ ap (take s.blocks) k.1 ∙ take-replicate s.blocks 32 0 s.few ∙ ap (λ j. replicate j 0) (sym (length-map (records_of s) record_mask ∙ s.sized)) ∙ sym (map_zeros ms)
+          ∙ sym (cond-true (some_empty ms) (map (λ _. 0) ms) ms (sym test ∙ k.0))
+      | inr k ↦ ap (take s.blocks) k.1 ∙ present ∙ sym (cond-false (some_empty ms) (map (λ _. 0) ms) ms (sym test ∙ k.0))
+    ]
+
+-- the row of such masks is there, and is the root row
+pub root_row : (s : CodeListing) (r : Row) (o : Option CodeRow) → r ≡ root (opened_of s) (pinned_of s) → MatchOption o (LawfulRow r → ⊥) (λ row. model row ≡ r) →
+    IsSome o × ((row : CodeRow) → o ≡ Some row → model row ≡ root (opened_of s) (pinned_of s))
+root_row s r None e h = absurd (h (subst LawfulRow (sym e) (root_lawful (lawful_opening s))))
+root_row s r (Some x) e h = (refl, λ row q. ap (λ z. model z) (let z : row ≡ x = cc in z) ∙ h ∙ e)

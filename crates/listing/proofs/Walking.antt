@@ -1,41 +1,27 @@
 -- What the loop of a walk keeps, and how it ends.
-use Rattle.std.proofs.Common.{◌≡◌, ℕ, zero, suc, ◌+◌, ◌-◌, ◌<◌, ◌≤◌, Bool, true, false, eqb, ◌≢◌, List, [], ◌∷◌, length, take, fold, sym, refl, ap, ◌∙◌, add-zero, zero-add, arith}
-use Rattle.std.proofs.lemmas.Bool.{cond-false, ne_eqb}
-use Rattle.network.specs.Rows.{Row}
+use Rattle.std.proofs.Common.{◌≡◌, ℕ, zero, suc, ◌+◌, ◌-◌, ◌<◌, ◌≤◌, Bool, true, false, eqb, ◌≢◌, not, List, [], ◌∷◌, ◌++◌, length, take, fold, sym, refl, ap, ◌∙◌, add-zero, arith}
+use Rattle.std.proofs.lemmas.List.{length-take-le}
+use Rattle.std.proofs.lemmas.Bool.{and_parts, cond-false, eqb-true, ne_eqb}
+use Rattle.network.specs.Offers.{first_of}
+use Rattle.network.specs.Rows.{Row, dead, next_mask}
 use Rattle.network.specs.Tree.{Node, shows}
-use Rattle.listing.specs.Model.{Outcome, done, plan, spent, visited}
-use Rattle.listing.specs.ToCome.{Slotted, Stacked, node_at, to_come}
-use Rattle.listing.specs.Walked.{Walked, ends, reached, stops}
+use Rattle.network.proofs.SlotsFrom.{from_here}
+use Rattle.listing.specs.Model.{done, plan, visited}
+use Rattle.listing.specs.ToCome.{ComesFirst, models, past, rest_of, row_at, width}
+use Rattle.listing.specs.Walked.{Visited, Walked, at, coming, ends, reached, stops}
+use Rattle.listing.specs.declared.walk.Walk.{Walk}
 use Rattle.listing.specs.declared.outcome.Outcome.TheVariants.{Done, Plan, Spent}
-use Rattle.listing.proofs.Stepping.{Stepped}
+use Rattle.listing.proofs.Advance.{first_below}
+use Rattle.listing.proofs.StackRows.{lawful_at}
+use Rattle.listing.proofs.Stacking.{child_low, next_open}
 
 -- after v visits of a walk over xs: what is to come makes up for the rest of it
-pub record Walking (f : Row → Row) (n : ℕ) (xs : List Node) (budget : ℕ) (rs : List Row) (path : List ℕ) (k a v : ℕ) : Type 0 where
-  pub stacked : Stacked n rs k
-  pub slotted : Slotted path k
-  pub inside : k ≤ n
-  pub room : 0 < v → k ≤ length path
-  pub slot : a ≤ 32
+pub record Walking (f : Row → Row) (n : ℕ) (xs : List Node) (budget : ℕ) (w : Walk) (v : ℕ) : Type 0 where
+  pub wide : width (models w.rows) ≡ n
   pub under : v ≤ budget
-  pub outcome : ends n budget xs ≡ ends n (budget - v) (to_come f n rs path k a)
-  pub count : length (visited n budget xs) ≡ v + length (visited n (budget - v) (to_come f n rs path k a))
-  pub stop : (last : List ℕ) → stops n budget last xs ≡ stops n (budget - v) (reached v last (take k path)) (to_come f n rs path k a)
-
-pub begin_walk : (f : Row → Row) (n budget : ℕ) (rs : List Row) (path : List ℕ) (k a : ℕ) → Stacked n rs k → Slotted path k → k ≤ n → a ≤ 32 →
-    Walking f n (to_come f n rs path k a) budget rs path k a 0
-begin_walk f n budget rs path k a s t i l =
-    let e : budget ≡ budget - 0 = omega arith in
-    record {
-      stacked = s;
-      slotted = t;
-      inside = i;
-      room = λ p. absurd (omega arith);
-      slot = l;
-      under = omega arith;
-      outcome = ap (λ b. ends n b (to_come f n rs path k a)) e;
-      count = ap (λ b. length (visited n b (to_come f n rs path k a))) e ∙ sym (zero-add (length (visited n (budget - 0) (to_come f n rs path k a))));
-      stop = λ last. ap (λ b. stops n b last (to_come f n rs path k a)) e;
-    }
+  pub outcome : ends n budget xs ≡ ends n (budget - v) (coming f w)
+  pub count : length (visited n budget xs) ≡ v + length (visited n (budget - v) (coming f w))
+  pub stop : (last : List ℕ) → stops n budget last xs ≡ stops n (budget - v) (reached v last (take w.depth w.path)) (coming f w)
 
 -- a visit is at another node
 reached_more : (v : ℕ) (last path : List ℕ) → path ≡ reached (v + 1) last path
@@ -67,75 +53,79 @@ count_more n b x xs e = simp e
 stops_more : (n b : ℕ) (last : List ℕ) (x : Node) (xs : List Node) → shows n x ≡ false → stops n (suc b) last (x ∷ xs) ≡ stops n b x.path xs
 stops_more n b last x xs e = simp e
 
-not_plan : (o : Outcome) → o ≡ done → o ≡ plan → ⊥
-not_plan o p q = let z : ◌≡◌ {A = ℕ} 0 1 = cc in omega arith
+-- there is a node to come where there is a next child
+some_left : (f : Row → Row) (w : Walk) (j s : ℕ) → ComesFirst (models w.rows) w.path w.depth w.from j s → (x : Node) × (ys : List Node) × (coming f w ≡ x ∷ ys)
+some_left f w j s p =
+    let rs = models w.rows in
+    let n = width rs in
+    let r : Row = row_at rs j in
+    let lr = lawful_at w.rows j in
+    let i : n - j ≡ suc (n - suc j) = omega (arith, child_low n rs w.depth j s lr w.stacked p.child) in (
+      _,
+      _,
+      p.same f n ∙ ap (λ z. rest_of f z (take j w.path) r s ++ past f n rs w.path j) i
+          ∙ ap (λ l. l ++ past f n rs w.path j)
+          (first_below f (n - suc j) (take j w.path) r s s (next_open lr s p.child.offered).0 (omega (arith, p.child.slot)) (ap first_of (from_here (next_mask r) s p.child.slot p.child.offered))),
+    )
 
-not_plan_spent : (o : Outcome) → o ≡ spent → o ≡ plan → ⊥
-not_plan_spent o p q = let z : ◌≡◌ {A = ℕ} 0 1 = cc in omega arith
-
-module _ (f : Row → Row) (n : ℕ) (xs : List Node) (budget : ℕ) (rs : List Row) (path : List ℕ) (k a v : ℕ) (w : Walking f n xs budget rs path k a v) where
-  pub finish_done : to_come f n rs path k a ≡ [] → Walked n xs budget path k Done v
+module _ (f : Row → Row) (n : ℕ) (xs : List Node) (budget : ℕ) (w : Walk) (v : ℕ) (h : Walking f n xs budget w v) where
+  pub finish_done : coming f w ≡ [] → Walked n xs budget w Done v
   finish_done e = record {
-    outcome = sym (w.outcome ∙ ap (ends n (budget - v)) e ∙ ends_none n (budget - v));
-    visits = sym (w.count ∙ ap (λ z. v + length (visited n (budget - v) z)) e ∙ ap (λ z. v + length z) (visited_none n (budget - v)) ∙ add-zero v);
-    stop = λ last. w.stop last ∙ ap (stops n (budget - v) (reached v last (take k path))) e ∙ ap (fold (λ _ x. x.path) (reached v last (take k path))) (visited_none n (budget - v));
-    deep = w.inside;
-    room = w.room;
-    slotted = w.slotted;
-    whole = λ p. absurd (not_plan done refl p);
+    wide = h.wide;
+    outcome = sym (h.outcome ∙ ap (ends n (budget - v)) e ∙ ends_none n (budget - v));
+    visits = sym (h.count ∙ ap (λ z. v + length (visited n (budget - v) z)) e ∙ ap (λ z. v + length z) (visited_none n (budget - v)) ∙ add-zero v);
+    stop = λ last. h.stop last ∙ ap (stops n (budget - v) (reached v last (take w.depth w.path))) e ∙ ap (fold (λ _ x. x.path) (reached v last (take w.depth w.path))) (visited_none n (budget - v));
+    whole = λ p. cc;
   }
 
-  pub finish_spent : v ≡ budget → (x : Node) (ys : List Node) → to_come f n rs path k a ≡ x ∷ ys → Walked n xs budget path k Spent v
-  finish_spent h x ys e =
+  pub finish_spent : v ≡ budget → (j s : ℕ) → ComesFirst (models w.rows) w.path w.depth w.from j s → Walked n xs budget w Spent v
+  finish_spent e j s c =
+      let p = some_left f w j s c in
       let z : budget - v ≡ 0 = omega arith in
       record {
-        outcome = sym (w.outcome ∙ ap (ends n (budget - v)) e ∙ ap (λ b. ends n b (x ∷ ys)) z);
-        visits = sym (w.count ∙ ap (λ b. v + length (visited n b (to_come f n rs path k a))) z ∙ add-zero v);
-        stop = λ last. w.stop last ∙ ap (λ b. stops n b (reached v last (take k path)) (to_come f n rs path k a)) z;
-        deep = w.inside;
-        room = w.room;
-        slotted = w.slotted;
-        whole = λ p. absurd (not_plan_spent spent refl p);
+        wide = h.wide;
+        outcome = sym (h.outcome ∙ ap (ends n (budget - v)) p.2 ∙ ap (λ b. ends n b (p.0 ∷ p.1)) z);
+        visits = sym (h.count ∙ ap (λ b. v + length (visited n b (coming f w))) z ∙ add-zero v);
+        stop = λ last. h.stop last ∙ ap (λ b. stops n b (reached v last (take w.depth w.path)) (coming f w)) z;
+        whole = λ q. cc;
       }
 
-  module _ (u : v ≢ budget) (qs : List Row) (way : List ℕ) (d : ℕ) (b : Bool) (t : Stepped f n rs qs path way k a d b) where
+  module _ (u : v ≢ budget) (t : Walk) (b : Bool) (k : Visited f w t b) where
     left : budget - v ≡ suc (budget - (v + 1))
-    left = let p : v < budget = omega (arith, w.under, u) in omega arith
+    left = let p : v < budget = omega (arith, h.under, u) in omega arith
 
-    abbrev x : Node
-    x = node_at qs way d
+    same_width : width (models t.rows) ≡ n
+    same_width = k.wide ∙ h.wide
 
-    abbrev ys : List Node
-    ys = to_come f n qs way d 0
+    shown : b ≡ shows n (at t)
+    shown = k.shown ∙ ap (λ i. shows i (at t)) same_width
 
-    pub finish_plan : b ≡ true → Walked n xs budget way d Plan (v + 1)
+    -- the walk's last node, if its path is told
+    abbrev here : List ℕ → List ℕ
+    here last = reached v last (take w.depth w.path)
+
+    pub finish_plan : b ≡ true → Walked n xs budget t Plan (v + 1)
     finish_plan e₁ =
-        let e : shows n x ≡ true = sym t.shown ∙ e₁ in
+        let e : shows n (at t) ≡ true = sym shown ∙ e₁ in
         record {
-          outcome = sym (w.outcome ∙ ap (ends n (budget - v)) t.came ∙ ap (λ i. ends n i (x ∷ ys)) left ∙ ends_shown n (budget - (v + 1)) x ys e);
-          visits = sym (w.count ∙ ap (λ z. v + length (visited n (budget - v) z)) t.came ∙ ap (λ i. v + length (visited n i (x ∷ ys))) left
-              ∙ ap (λ i. v + i) (count_shown n (budget - (v + 1)) x ys e));
-          stop = λ last. w.stop last ∙ ap (stops n (budget - v) (reached v last (take k path))) t.came ∙ ap (λ i. stops n i (reached v last (take k path)) (x ∷ ys)) left
-              ∙ stops_shown n (budget - (v + 1)) (reached v last (take k path)) x ys e ∙ reached_more v last (take d way);
-          deep = t.low;
-          room = λ _. t.room;
-          slotted = t.slotted;
-          whole = λ _. (t.whole e₁, λ z. omega arith);
+          wide = same_width;
+          outcome = sym (h.outcome ∙ ap (ends n (budget - v)) k.came ∙ ap (λ i. ends n i (at t ∷ coming f t)) left ∙ ends_shown n (budget - (v + 1)) (at t) (coming f t) e);
+          visits = sym (h.count ∙ ap (λ z. v + length (visited n (budget - v) z)) k.came ∙ ap (λ i. v + length (visited n i (at t ∷ coming f t))) left
+              ∙ ap (λ i. v + i) (count_shown n (budget - (v + 1)) (at t) (coming f t) e));
+          stop = λ last. h.stop last ∙ ap (stops n (budget - v) (here last)) k.came ∙ ap (λ i. stops n i (here last) (at t ∷ coming f t)) left
+              ∙ stops_shown n (budget - (v + 1)) (here last) (at t) (coming f t) e ∙ reached_more v last (take t.depth t.path);
+          whole = λ _. (sym (length-take-le t.depth t.path t.room) ∙ eqb-true (length (take t.depth t.path)) n (and_parts (eqb (length (take t.depth t.path)) n) (not (dead (at t).row)) e).0, λ z. omega arith);
         }
 
-    pub walk_on : b ≡ false → Walking f n xs budget qs way d 0 (v + 1)
+    pub walk_on : b ≡ false → Walking f n xs budget t (v + 1)
     walk_on e₀ =
-        let e : shows n x ≡ false = sym t.shown ∙ e₀ in
+        let e : shows n (at t) ≡ false = sym shown ∙ e₀ in
         record {
-          stacked = t.stacked;
-          slotted = t.slotted;
-          inside = t.low;
-          room = λ _. t.room;
-          slot = omega arith;
-          under = omega (arith, w.under, u);
-          outcome = w.outcome ∙ ap (ends n (budget - v)) t.came ∙ ap (λ i. ends n i (x ∷ ys)) left ∙ ends_more n (budget - (v + 1)) x ys e;
-          count = w.count ∙ ap (λ z. v + length (visited n (budget - v) z)) t.came ∙ ap (λ i. v + length (visited n i (x ∷ ys))) left
-              ∙ ap (λ i. v + i) (count_more n (budget - (v + 1)) x ys e) ∙ omega arith;
-          stop = λ last. w.stop last ∙ ap (stops n (budget - v) (reached v last (take k path))) t.came ∙ ap (λ i. stops n i (reached v last (take k path)) (x ∷ ys)) left
-              ∙ stops_more n (budget - (v + 1)) (reached v last (take k path)) x ys e ∙ ap (λ z. stops n (budget - (v + 1)) z ys) (reached_more v last (take d way));
+          wide = same_width;
+          under = omega (arith, h.under, u);
+          outcome = h.outcome ∙ ap (ends n (budget - v)) k.came ∙ ap (λ i. ends n i (at t ∷ coming f t)) left ∙ ends_more n (budget - (v + 1)) (at t) (coming f t) e;
+          count = h.count ∙ ap (λ z. v + length (visited n (budget - v) z)) k.came ∙ ap (λ i. v + length (visited n i (at t ∷ coming f t))) left
+              ∙ ap (λ i. v + i) (count_more n (budget - (v + 1)) (at t) (coming f t) e) ∙ omega arith;
+          stop = λ last. h.stop last ∙ ap (stops n (budget - v) (here last)) k.came ∙ ap (λ i. stops n i (here last) (at t ∷ coming f t)) left
+              ∙ stops_more n (budget - (v + 1)) (here last) (at t) (coming f t) e ∙ ap (λ z. stops n (budget - (v + 1)) z (coming f t)) (reached_more v last (take t.depth t.path));
         }

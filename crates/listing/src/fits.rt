@@ -9,22 +9,12 @@ use network::bank::Bank;
 fn reaches_past<B: Bank>(bank: &B, c: usize, blocks: usize) -> bool
     ensures { result ≡ some_pass (λ b. nat_le blocks b) (sheet_at (B.Bank.meaning bank.now) c).scope }
 {
-    for p in 0..bank.arity(c) {
-        if bank.block(c, p) as usize >= blocks {
-            return true;
-        }
-    }
-    false
+    (0..bank.arity(c)).any(|p| bank.block(c, p) as usize >= blocks)
 }
 
 // Whether some sheet does.
 pub fn has_misfit<B: Bank>(bank: &B, blocks: usize) -> bool
     ensures { result ≡ misfits blocks (B.Bank.meaning bank.now) }
 {
-    for c in 0..bank.count() {
-        if reaches_past(bank, c, blocks) {
-            return true;
-        }
-    }
-    false
+    (0..bank.count()).any(|c| reaches_past(bank, c, blocks))
 }

@@ -22,10 +22,7 @@ impl BlockRecord {
     pub fn mask(&self) -> u32
         ensures { result ≡ record_mask self.now }
     {
-        match self.pin {
-            None => self.opened,
-            Some(slot) => single(slot),
-        }
+        self.pin.map_or(self.opened, single)
     }
 
     // Sets the pin. The open mask stays as it is.

@@ -4,8 +4,8 @@ use crate::listing::Listing;
 mod calls;
 mod next;
 
-// Blank until it is opened.
+// Blank until it is opened: then it has no listing.
 #[derive(Clone, Copy)]
 pub struct Session {
-    listing: Listing,
+    listing: Option<Listing>,
 }

@@ -1,8 +1,14 @@
 // A walk over the nodes that are still to come: a stack of rows along a path.
-use network::row::Row;
+ghost use Rattle.std.specs.Prelude.{◌≤◌, length};
+ghost use Rattle.listing.specs.ToCome.{Slotted, Stacked, models, width};
+
+use network::row::{BLOCKS, Row};
 
 mod stack;
 mod visits;
+
+// The root row, and one below it for each block.
+pub(crate) const ROWS: usize = BLOCKS + 1;
 
 // A child of a row of the stack: how deep the row is, and the slot that its next block takes.
 #[derive(Clone, Copy)]
@@ -12,10 +18,16 @@ pub struct Child {
 }
 
 // Row k has the path's first k slots decided, for k up to `depth`. The walk goes on from slot `from` of the deepest row's next block.
+// There is no heap, so rows and path are arrays with their depth beside them.
 #[derive(Drop)]
 pub struct Walk {
-    pub rows: [Row; 33],
-    pub path: [u8; 32],
+    pub rows: [Row; ROWS],
+    pub path: [u8; BLOCKS],
     pub depth: usize,
     pub from: u8,
+    ghost deep: { depth ≤ 32 },
+    ghost room: { depth ≤ length path },
+    ghost slot: { from ≤ 32 },
+    ghost slotted: { Slotted path depth },
+    ghost stacked: { Stacked (width (models rows)) (models rows) depth },
 }

@@ -5,31 +5,23 @@ ghost use Rattle.network.specs.RowModel.{model};
 ghost use Rattle.network.specs.Tree.{root};
 
 use crate::listing::Listing;
-use network::row::Row;
+use network::row::{BLOCKS, Row};
 
 impl Listing {
-    // Each block at its open mask, or at its pin alone. One empty mask empties all.
+    // Each block at its open mask, or at its pin alone. One empty mask empties all. The masks are set by their numbers, as the records are.
     pub(super) fn root(&self) -> Row
-        requires { 0 < self.now.blocks }
         ensures { model result ≡ root (opened_of self.now) (pinned_of self.now) }
     {
         let blocks = self.blocks;
-        let mut opened = [0; 32];
-        let mut present = [0; 32];
-        let mut dead = false;
-        for block in 0..blocks {
-            let record = self.records[block];
-            let mask = record.mask();
+        let mut opened = [0; BLOCKS];
+        let mut present = [0; BLOCKS];
+        for (block, record) in self.records[..blocks].iter().enumerate() {
             opened[block] = record.opened;
-            present[block] = mask;
-            dead = dead || mask == 0;
+            present[block] = record.mask();
         }
-        if dead {
-            present = [0; 32];
+        if present[..blocks].contains(&0) {
+            present = [0; BLOCKS];
         }
-        match Row::new(&opened[0..blocks], &present[0..blocks], 0) {
-            Some(row) => row,
-            None => unreachable(),
-        }
+        Row::new(&opened[..blocks], &present[..blocks], 0).unwrap()
     }
 }

@@ -4,9 +4,10 @@ ghost use Rattle.listing.specs.Represents.{Continued};
 
 use crate::listing::Listing;
 use crate::outcome::Outcome;
-use crate::walk::Walk;
+use crate::walk::{ROWS, Walk};
 use network::bank::Bank;
 use network::filter::Filter;
+use network::row::BLOCKS;
 
 impl Listing {
     // Walks on from the last node. It stays the last one where none is visited.
@@ -16,19 +17,16 @@ impl Listing {
         filter: &mut F,
         budget: u32,
     ) -> (Outcome, u32)
-        requires { 0 < self.old.blocks }
         ensures walk { Continued self.old self.new (B.Bank.meaning bank.now) (F.Filter.filtered filter.old) budget result.0 result.1 }
         ensures meaning { F.Filter.filtered filter.new ≡ F.Filter.filtered filter.old }
     {
-        let root = self.root();
-        let path = self.path;
         let mut walk = Walk {
-            rows: [root; 33],
-            path,
+            rows: [self.root(); ROWS],
+            path: [0; BLOCKS],
             depth: 0,
             from: 0,
         };
-        walk.rebuild(bank, filter, self.depth);
+        walk.go_past(&self.path[..self.depth], bank, filter);
         let (outcome, visits) = walk.visit_nodes(bank, filter, budget);
         if visits > 0 {
             self.path = walk.path;
@@ -43,8 +41,7 @@ impl Listing {
         ensures front { take self.now.blocks place.new ≡ take self.now.blocks self.now.path }
         ensures back { drop self.now.blocks place.new ≡ drop self.now.blocks place.old }
     {
-        for block in 0..self.blocks {
-            place[block] = self.path[block];
-        }
+        let blocks = self.blocks;
+        place[..blocks].copy_from_slice(&self.path[..blocks]);
     }
 }

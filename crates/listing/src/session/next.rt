@@ -1,8 +1,8 @@
 // The call of a session that visits nodes.
 ghost use Rattle.listing.specs.Model.{next_call};
-ghost use Rattle.listing.specs.Represents.{PlaceAfter, Runs, Takes, WalksAlong, last_of, walked_of};
+ghost use Rattle.listing.specs.Represents.{PlaceAfter, Runs, Takes, WalksAlong, blocks_of, node_of, walked_of};
 ghost use Rattle.network.specs.Sheets.{Sheet};
-ghost use Rattle.std.specs.Prelude.{◌≡◌, not, ◌||◌, List, length, Ok, Err, ◌==◌, nat_lt};
+ghost use Rattle.std.specs.Prelude.{◌≡◌, not, ◌||◌, List, length, OnErr, ◌==◌, nat_lt};
 
 use crate::fits::has_misfit;
 use crate::outcome::Outcome;
@@ -17,7 +17,7 @@ const MAX_BUDGET: u32 = 1_000_000;
 fn is_budget(budget: u32) -> bool
     ensures { result ≡ not (budget == 0 || nat_lt 1000000 budget) }
 {
-    budget >= 1 && budget <= MAX_BUDGET
+    (1..=MAX_BUDGET).contains(&budget)
 }
 
 impl Session {
@@ -30,29 +30,28 @@ impl Session {
         budget: u32,
         place: &mut [u8],
     ) -> Result<(Outcome, u32), Refusal>
-        ensures step { Takes self.old self.new (next_call (B.Bank.meaning bank.now) (F.Filter.filtered filter.old) budget (length place.old)) (walked_of self.old.listing.blocks place.new result) }
-        ensures runs { (m : List Sheet) → Runs m self.old self.new (next_call (B.Bank.meaning bank.now) (F.Filter.filtered filter.old) budget (length place.old)) (walked_of self.old.listing.blocks place.new result) }
-        ensures walks { WalksAlong self.old.listing self.new.listing (B.Bank.meaning bank.now) (F.Filter.filtered filter.old) budget (walked_of self.old.listing.blocks place.new result) }
+        ensures step { Takes self.old self.new (next_call (B.Bank.meaning bank.now) (F.Filter.filtered filter.old) budget (length place.old)) (walked_of (blocks_of self.old) place.new result) }
+        ensures runs { (m : List Sheet) → Runs m self.old self.new (next_call (B.Bank.meaning bank.now) (F.Filter.filtered filter.old) budget (length place.old)) (walked_of (blocks_of self.old) place.new result) }
+        ensures walks { WalksAlong self.old self.new (B.Bank.meaning bank.now) (F.Filter.filtered filter.old) budget (walked_of (blocks_of self.old) place.new result) }
         ensures meaning { F.Filter.filtered filter.new ≡ F.Filter.filtered filter.old }
-        ensures refused { elim result [ Ok v ↦ Unit {0} | Err e ↦ (self.new ≡ self.old) × (place.new ≡ place.old) ] }
-        ensures place { PlaceAfter self.old.listing.blocks (last_of self.new.listing) place.old place.new result }
+        ensures refused { OnErr result ((self.new ≡ self.old) × (place.new ≡ place.old)) }
+        ensures place { PlaceAfter (blocks_of self.old) (node_of self.new) place.old place.new result }
     {
-        let blocks = self.listing.blocks;
-        if blocks == 0 {
+        let Some(listing) = &mut self.listing else {
             return Err(Refusal::NotOpened);
-        }
+        };
         if !is_budget(budget) {
             return Err(Refusal::BadBudget);
         }
-        if place.len() < blocks {
+        if place.len() < listing.blocks {
             return Err(Refusal::PlaceTooShort);
         }
-        if has_misfit(bank, blocks) {
+        if has_misfit(bank, listing.blocks) {
             return Err(Refusal::OutOfRange);
         }
-        let (outcome, visits) = self.listing.go_on(bank, filter, budget);
+        let (outcome, visits) = listing.go_on(bank, filter, budget);
         if let Outcome::Plan = outcome {
-            self.listing.write_plan(place);
+            listing.write_plan(place);
         }
         Ok((outcome, visits))
     }

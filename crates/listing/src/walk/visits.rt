@@ -1,7 +1,7 @@
 // The nodes that a call visits.
-ghost use Rattle.std.specs.Prelude.{◌≡◌, ◌≤◌};
-ghost use Rattle.listing.specs.ToCome.{Slotted, Stacked, models, to_come, width};
-ghost use Rattle.listing.specs.Walked.{Walked};
+ghost use Rattle.std.specs.Prelude.{◌≡◌};
+ghost use Rattle.listing.specs.ToCome.{models, width};
+ghost use Rattle.listing.specs.Walked.{Walked, coming};
 
 use crate::outcome::Outcome;
 use crate::walk::Walk;
@@ -16,18 +16,11 @@ impl Walk {
         filter: &mut F,
         budget: u32,
     ) -> (Outcome, u32)
-        requires deep { self.old.depth ≤ width (models self.old.rows) }
-        requires from { self.old.from ≤ 32 }
-        requires slots { Slotted self.old.path self.old.depth }
-        requires rows { Stacked (width (models self.old.rows)) (models self.old.rows) self.old.depth }
-        ensures walked { Walked (width (models self.old.rows)) (to_come (F.Filter.filtered filter.old (B.Bank.meaning bank.now)) (width (models self.old.rows)) (models self.old.rows) self.old.path self.old.depth self.old.from) budget self.new.path self.new.depth result.0 result.1 }
+        ensures walked { Walked (width (models self.old.rows)) (coming (F.Filter.filtered filter.old (B.Bank.meaning bank.now)) self.old) budget self.new result.0 result.1 }
         ensures meaning { F.Filter.filtered filter.new ≡ F.Filter.filtered filter.old }
     {
         let mut visits = 0;
-        loop {
-            let Some(child) = self.next_child() else {
-                return (Outcome::Done, visits);
-            };
+        while let Some(child) = self.next_child() {
             if visits == budget {
                 return (Outcome::Spent, visits);
             }
@@ -37,5 +30,6 @@ impl Walk {
                 return (Outcome::Plan, visits);
             }
         }
+        (Outcome::Done, visits)
     }
 }
