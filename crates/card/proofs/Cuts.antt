@@ -1,8 +1,11 @@
 -- A text is cut at the first place of a byte, and lines and pieces are what is cut off again and again.
-use Rattle.std.proofs.Common.{◌≡◌, ℕ, zero, suc, ◌+◌, ◌<◌, true, false, eqb, List, [], ◌∷◌, length, get_or, take, drop, Some, sym, refl, ap, ◌∙◌, inl, inr, arith}
-use Rattle.std.proofs.lemmas.Bool.{cases_Bool, eq-eqb, false≢true, ne_eqb}
+use Rattle.std.proofs.Common.{◌≡◌, ℕ, zero, suc, ◌+◌, ◌<◌, true, false, eqb, ltb, List, [], ◌∷◌, length, get_or, take, drop, Option, Some, None, add-one, sym, refl, ap, ◌∙◌, inl, inr, arith}
+use Rattle.std.specs.List.{position, position_or_len}
+use Rattle.std.proofs.lemmas.List.Quantifiers.{position-Some}
+use Rattle.std.proofs.lemmas.Bool.{cases_Bool, eq-eqb, eqb-false, eqb-true, false≢true, cases_lt, le-ltb, lt-ltb, ne_eqb}
 use Rattle.card.specs.Verdict.{add_byte, Cut, cut, first_line, Lines, lines, pieces, push_front}
 use Rattle.card.specs.Parts.{CutAt}
+use Rattle.card.proofs.Tests.{never}
 
 pub cut_at : (c : ℕ) (bs : List ℕ) (i : ℕ) → i < length bs → ((k : ℕ) → k < i → get_or bs k 0 ≡ c → ⊥) → get_or bs i 0 ≡ c →
     cut c bs ≡ record { found = true; front = take i bs; back = drop (suc i) bs }
@@ -14,6 +17,23 @@ cut_at c (x ∷ xs) (suc i) l none here =
 pub cut_nowhere : (c : ℕ) (bs : List ℕ) → ((k : ℕ) → k < length bs → get_or bs k 0 ≡ c → ⊥) → (cut c bs).found ≡ false
 cut_nowhere c [] none = refl
 cut_nowhere c (x ∷ xs) none = rw (ne_eqb x c (none 0 (omega arith))) (cut_nowhere c xs (λ k h. none (suc k) (omega arith)))
+
+under : (a b : ℕ) → ltb a b ≡ ltb (1 + a) (suc b)
+under a b = elim (cases_lt a b) [ inl l ↦ lt-ltb a b l ∙ sym (lt-ltb (1 + a) (suc b) (omega arith)) | inr l ↦ le-ltb a b l ∙ sym (le-ltb (1 + a) (suc b) (omega arith)) ]
+
+cut_found : (c : ℕ) (bs : List ℕ) → (cut c bs).found ≡ ltb (position_or_len (λ b. eqb b c) bs) (length bs)
+cut_found c [] = refl
+cut_found c (x ∷ xs) = elim (cases_Bool (eqb x c)) [ inl t ↦ rw t (sym (lt-ltb 0 (length (x ∷ xs)) (omega arith))) | inr t ↦ rw t (cut_found c xs ∙ under (position_or_len (λ b. eqb b c) xs) (length xs)) ]
+
+-- the first position of the byte is where the text is cut
+pub cut_position : (c : ℕ) (bs : List ℕ) (r : Option ℕ) → r ≡ position (λ b. eqb b c) bs → CutAt c bs r
+cut_position c bs (Some i) e =
+    let p = position-Some (λ b. eqb b c) bs i 0 (sym e) in
+    (p.0, rw add-one (cut_at c bs i p.0 (λ k h. eqb-false (get_or bs k 0) c (p.2 k h)) (eqb-true (get_or bs i 0) c p.1)))
+cut_position c bs None e = cut_found c bs ∙ elim (cases_Bool (ltb (position_or_len (λ b. eqb b c) bs) (length bs))) [
+  | inl t ↦ (let z : ◌≡◌ {A = Option ℕ} None (Some (position_or_len (λ b. eqb b c) bs)) = rw t at e in absurd (never cc))
+  | inr f ↦ f
+]
 
 -- the first piece ends at the first comma, and the first line at the first newline
 pieces_cut : (bs : List ℕ) → (cut 44 bs).found ≡ true → pieces bs ≡ (cut 44 bs).front ∷ pieces (cut 44 bs).back

@@ -22,3 +22,11 @@ other key word r m e = not_from_Decides r (slice_eq-Decides Decides-eqb key word
 pub tested : (bs word : List ℕ) (r : Bool) → Compared bs word r → same_bytes bs word ≡ r
 tested bs word r m =
     same_from_decides (same_bytes bs word) r (same_bytes_true bs word, λ e. subst (λ w. same_bytes bs w ≡ true) e (same_bytes_self bs)) (slice_eq-Decides Decides-eqb bs word r m)
+
+-- what `==` tells is what the test of the definitions tells
+pub told : (bs word : List ℕ) (r : Bool) → r ≡ pointwise eqb bs word → r ≡ same_bytes bs word
+told bs word r m = sym (tested bs word r m)
+
+-- a text that is told to be a word is that word
+pub is_same : (text word : List ℕ) → true ≡ same_bytes text word → word ≡ text
+is_same text word e = sym (same_bytes_true text word (sym e))

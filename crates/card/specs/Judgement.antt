@@ -1,4 +1,4 @@
--- What the judgement of a card answers.
+-- After which line a card has been read.
 use Rattle.std.specs.Prelude.{◌≡◌, Bool, true, false, Ok, Err, Result}
 use Rattle.card.specs.declared.refusal.CardRefusal.{CardRefusal}
 use Rattle.card.specs.declared.stage.Expected.{Expected}
@@ -20,8 +20,3 @@ ends (Rule k) = false
 ends (RuleScope k rule) = false
 ends End = false
 ends Nothing = true
-
--- good where the card spells a network, and otherwise the verdict's refusal at its line
-abbrev pub Judges : Verdict → Result (Unit {0}) CardRefusal → Type 0
-Judges v (Ok x) = (n : Network) × (v ≡ spelled n)
-Judges v (Err e) = v ≡ fault e.refusal e.line

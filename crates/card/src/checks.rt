@@ -18,9 +18,7 @@ pub(crate) fn number_in(value: &[u8], least: usize, most: usize) -> Result<usize
     requires { most < 2 ^ 32 }
     ensures { result ≡ number_checked least most value.now }
 {
-    let Some(n) = number(value) else {
-        return Err(Refusal::Malformed);
-    };
+    let n = number(value).ok_or(Refusal::Malformed)?;
     if n < least || n > most {
         return Err(Refusal::LimitExceeded);
     }
@@ -30,21 +28,14 @@ pub(crate) fn number_in(value: &[u8], least: usize, most: usize) -> Result<usize
 fn all_below(numbers: &[u8], limit: usize) -> bool
     ensures { result ≡ list_all (λ x. nat_lt x limit) numbers.now }
 {
-    for x in numbers {
-        if *x as usize >= limit {
-            return false;
-        }
-    }
-    true
+    numbers.iter().all(|x| (*x as usize) < limit)
 }
 
 pub(crate) fn scope_in(value: &[u8], blocks: usize) -> Result<NumberList, Refusal>
     requires { blocks ≤ 32 }
     ensures { result ≡ scope_checked blocks value.now }
 {
-    let Some(list) = NumberList::read(value) else {
-        return Err(Refusal::Malformed);
-    };
+    let list = NumberList::read(value).ok_or(Refusal::Malformed)?;
     if list.count < MIN_ARITY || list.count > MAX_ARITY {
         return Err(Refusal::LimitExceeded);
     }
@@ -59,18 +50,11 @@ pub(crate) fn scope_in(value: &[u8], blocks: usize) -> Result<NumberList, Refusa
 }
 
 // Whether the first list comes before the second, by the first place where they differ.
+
 fn comes_before(a: &[u8], b: &[u8]) -> bool
     ensures { result ≡ precedes a.now b.now }
 {
-    for i in 0..b.len() {
-        if i >= a.len() {
-            return true;
-        }
-        if a[i] != b[i] {
-            return a[i] < b[i];
-        }
-    }
-    false
+    a < b
 }
 
 // A slot for each block of a scope, in a tuple above the last one.
@@ -78,9 +62,7 @@ pub(crate) fn tuple_in(value: &[u8], arity: usize, last: &[u8]) -> Result<Number
     requires { arity ≤ 6 }
     ensures { result ≡ tuple_checked arity last.now value.now }
 {
-    let Some(list) = NumberList::read(value) else {
-        return Err(Refusal::Malformed);
-    };
+    let list = NumberList::read(value).ok_or(Refusal::Malformed)?;
     if list.count != arity {
         return Err(Refusal::Malformed);
     }

@@ -1,25 +1,13 @@
 // The sizes of what has been read, entry by entry.
 ghost use Rattle.std.specs.Prelude.{◌≡◌, ℕ, ◌+◌, ◌≤◌};
-ghost use Rattle.card.specs.Filling.{Few, FitEntry, added, memory_of};
+ghost use Rattle.card.specs.Filling.{Few, FitEntry, added};
 ghost use Rattle.card.specs.Layout.{Memory, sizes_of};
 ghost use Rattle.card.specs.Reads.{fits};
-ghost use Rattle.card.specs.Verdict.{nothing_read};
 
 use crate::entry::Entry;
 use crate::sizes::Sizes;
 
 impl Sizes {
-    pub(crate) fn none() -> Sizes
-        ensures { result ≡ sizes_of (memory_of nothing_read) }
-    {
-        Sizes {
-            masks: 0,
-            tables: 0,
-            cells: 0,
-            rules: 0,
-        }
-    }
-
     // One entry more.
     pub(crate) fn with(self, entry: Entry) -> Sizes
         requires few { Few 32769 self }

@@ -5,7 +5,6 @@ mod advance;
 mod checks;
 mod counting;
 mod entry;
-mod judge;
 mod line;
 mod list;
 mod number;

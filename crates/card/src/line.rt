@@ -2,6 +2,7 @@
 ghost use Rattle.card.specs.Kinds.{Keyed, ReadAs};
 
 use crate::place::place_of;
+use crate::word::is_word;
 
 // A line by its key, with the bytes of its value.
 #[derive(Clone, Copy)]
@@ -20,28 +21,29 @@ pub enum Line<'a> {
 
 impl<'a> Line<'a> {
     // The line with that key, if there is one.
+    #[tactic(auto, using(crate::proofs::Texts::is_same))]
     fn keyed(key: &[u8], value: &'a [u8]) -> Option<Line<'a>>
         ensures { Keyed key.now value.now result }
     {
-        if key == b"blocks".as_slice() {
+        if is_word(key, b"blocks") {
             Some(Line::Blocks(value))
-        } else if key == b"open".as_slice() {
+        } else if is_word(key, b"open") {
             Some(Line::Open(value))
-        } else if key == b"sheets".as_slice() {
+        } else if is_word(key, b"sheets") {
             Some(Line::Sheets(value))
-        } else if key == b"kind".as_slice() {
+        } else if is_word(key, b"kind") {
             Some(Line::Kind(value))
-        } else if key == b"scope".as_slice() {
+        } else if is_word(key, b"scope") {
             Some(Line::Scope(value))
-        } else if key == b"rows".as_slice() {
+        } else if is_word(key, b"rows") {
             Some(Line::Tuples(value))
-        } else if key == b"row".as_slice() {
+        } else if is_word(key, b"row") {
             Some(Line::Tuple(value))
-        } else if key == b"rules".as_slice() {
+        } else if is_word(key, b"rules") {
             Some(Line::Rules(value))
-        } else if key == b"rule".as_slice() {
+        } else if is_word(key, b"rule") {
             Some(Line::Rule(value))
-        } else if key == b"end".as_slice() {
+        } else if is_word(key, b"end") {
             Some(Line::End(value))
         } else {
             None

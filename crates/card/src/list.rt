@@ -44,15 +44,11 @@ impl NumberList {
         let mut list = NumberList::empty();
         let mut rest = value;
         while let Some(comma) = place_of(rest, b',') {
-            let Some(n) = number(&rest[0..comma]) else {
-                return None;
-            };
+            let n = number(&rest[..comma])?;
             list.push(n);
             rest = &rest[comma + 1..];
         }
-        let Some(last) = number(rest) else {
-            return None;
-        };
+        let last = number(rest)?;
         list.push(last);
         Some(list)
     }

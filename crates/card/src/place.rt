@@ -1,13 +1,16 @@
 // Where a byte first stands in a text.
+ghost use Rattle.std.specs.Prelude.{◌≡◌, ◌==◌, position};
 ghost use Rattle.card.specs.Parts.{CutAt};
 
+fn first_of(bytes: &[u8], byte: u8) -> Option<usize>
+    ensures { result ≡ position (λ b. b == byte) bytes.now }
+{
+    bytes.iter().position(|b| *b == byte)
+}
+
+#[tactic(auto, using(crate::proofs::Cuts::cut_position))]
 pub(crate) fn place_of(bytes: &[u8], byte: u8) -> Option<usize>
     ensures { CutAt byte bytes.now result }
 {
-    for (i, b) in bytes.iter().enumerate() {
-        if *b == byte {
-            return Some(i);
-        }
-    }
-    None
+    first_of(bytes, byte)
 }

@@ -5,13 +5,14 @@ ghost use Rattle.card.specs.Spelling.{Network};
 ghost use Rattle.card.specs.Verdict.{spelled, verdict};
 ghost use Rattle.std.specs.Prelude.{◌≡◌, ◌≤◌, true, length};
 
-use crate::judge::MAX_BYTES;
 use crate::reader::Reader;
 use crate::refusal::CardRefusal;
 use crate::sizes::Sizes;
 use banks::rule::RuleRecord;
 use banks::table::TableRecord;
 use network::refusal::Refusal;
+
+const MAX_BYTES: usize = 32768;
 
 // What the network takes of each place, if the card is good; otherwise the first faulty line and why.
 fn judge(card: &[u8]) -> Result<Sizes, CardRefusal>
@@ -24,7 +25,7 @@ fn judge(card: &[u8]) -> Result<Sizes, CardRefusal>
         });
     }
     let mut reader = Reader::new(card);
-    let mut sizes = Sizes::none();
+    let mut sizes = Sizes::default();
     while let Some(entry) = reader.next_entry()? {
         sizes = sizes.with(entry);
     }
@@ -46,7 +47,7 @@ fn fill(
         ≡ over (layout x) (memory masks.old tables.old cells.old rules.old) }
 {
     let mut reader = Reader::new(card);
-    let mut filled = Sizes::none();
+    let mut filled = Sizes::default();
     while let Ok(Some(entry)) = reader.next_entry() {
         entry.put(filled, masks, tables, cells, rules);
         filled = filled.with(entry);

@@ -2,14 +2,22 @@
 ghost use Rattle.std.specs.Prelude.{◌≡◌, ℕ, List};
 ghost use Rattle.card.specs.Filling.{At, ReadsOn, Ready};
 ghost use Rattle.card.specs.Stages.{stage_of};
+ghost use Rattle.card.specs.Steps.{at_line};
 ghost use Rattle.card.specs.Verdict.{Reading, nothing_read};
 
-use crate::entry::Entry;
+use crate::entry::{Entry, Step};
 use crate::place::place_of;
 use crate::reader::Reader;
 use crate::refusal::CardRefusal;
 use crate::stage::{Expected, Stage};
 use network::refusal::Refusal;
+
+// A refusal is one of the card at that line.
+fn at_line(step: Result<Step, Refusal>, line: usize) -> Result<Step, CardRefusal>
+    ensures { result ≡ at_line line step }
+{
+    step.map_err(|refusal| CardRefusal { refusal, line })
+}
 
 impl<'a> Reader<'a> {
     pub(crate) fn new(card: &'a [u8]) -> Reader<'a>
@@ -35,7 +43,7 @@ impl<'a> Reader<'a> {
     {
         let rest = self.rest;
         let Some(end) = place_of(rest, b'\n') else {
-            if self.stage.is_done() && rest.len() == 0 {
+            if self.stage.is_done() && rest.is_empty() {
                 return Ok(None);
             }
             return Err(CardRefusal {
@@ -43,15 +51,7 @@ impl<'a> Reader<'a> {
                 line: self.line,
             });
         };
-        let step = match self.stage.step_over(&rest[0..end]) {
-            Ok(step) => step,
-            Err(refusal) => {
-                return Err(CardRefusal {
-                    refusal,
-                    line: self.line,
-                });
-            }
-        };
+        let step = at_line(self.stage.step_over(&rest[..end]), self.line)?;
         self.stage = step.stage;
         self.rest = &rest[end + 1..];
         self.line += 1;

@@ -1,6 +1,6 @@
 // How much of each place is filled, or has room.
 
-#[derive(Clone, Copy)]
+#[derive(Clone, Copy, Default)]
 pub struct Sizes {
     pub masks: usize,
     pub tables: usize,

@@ -1,5 +1,6 @@
 // How far a card has been read: what is due, and what its checks need to know.
 ghost use Rattle.std.specs.Prelude.{◌≡◌, ℕ, List, length};
+ghost use Rattle.card.specs.Judgement.{ends};
 ghost use Rattle.card.specs.Lists.{list_of};
 ghost use Rattle.card.specs.Stages.{expected_of, stage_of};
 ghost use Rattle.card.specs.Verdict.{Reading, kind_or_rules, last_tuple, open_or_sheets, row_or_next, rule_or_end};
@@ -37,30 +38,27 @@ impl Expected {
     pub(crate) fn open_or_sheets(more: usize) -> Expected
         ensures { result ≡ expected_of (open_or_sheets more) }
     {
-        if more == 0 {
-            Expected::Sheets
-        } else {
-            Expected::Open(more - 1)
+        match more.checked_sub(1) {
+            None => Expected::Sheets,
+            Some(more) => Expected::Open(more),
         }
     }
 
     pub(crate) fn kind_or_rules(more: usize) -> Expected
         ensures { result ≡ expected_of (kind_or_rules more) }
     {
-        if more == 0 {
-            Expected::Rules
-        } else {
-            Expected::Kind(more - 1)
+        match more.checked_sub(1) {
+            None => Expected::Rules,
+            Some(more) => Expected::Kind(more),
         }
     }
 
     pub(crate) fn rule_or_end(more: usize) -> Expected
         ensures { result ≡ expected_of (rule_or_end more) }
     {
-        if more == 0 {
-            Expected::End
-        } else {
-            Expected::Rule(more - 1)
+        match more.checked_sub(1) {
+            None => Expected::End,
+            Some(more) => Expected::Rule(more),
         }
     }
 
@@ -74,10 +72,18 @@ impl Expected {
         ensures { (kind : Kind) (scope : List ℕ) (ts : List (List ℕ)) (q : Reading) → arity ≡ length scope → last ≡ list_of (last_tuple ts) →
             result ≡ (stage_of (row_or_next more kind scope left ts q)).next }
     {
-        if left == 0 {
-            Expected::kind_or_rules(more)
-        } else {
-            Expected::Tuple(more, arity, left - 1, last)
+        match left.checked_sub(1) {
+            None => Expected::kind_or_rules(more),
+            Some(left) => Expected::Tuple(more, arity, left, last),
         }
+    }
+}
+
+impl Stage {
+    // Whether the last line has been read.
+    pub(crate) fn is_done(self) -> bool
+        ensures { result ≡ ends self.next }
+    {
+        matches!(self.next, Expected::Nothing)
     }
 }

@@ -1,4 +1,4 @@
-use Rattle.std.proofs.Common.{Ok, Option, subst}
+use Rattle.std.proofs.Common.{rules, Ok, Option, subst}
 use Rattle.card.specs.declared.entry.Entry.{Entry}
 use Rattle.card.specs.Filling.{ReadsOn}
 use Rattle.card.specs.Verdict.{nothing_read}
@@ -12,8 +12,8 @@ loop-entry-init c =
     let r = c.new-reader.result in
     let is = c.new-reader.ensures in (
       nothing_read,
-      first_counted card r c.none-sizes.result (first_ready card r c.if-card-gt-MAX_BYTES.false is.rest is.line is.stage)
-          (first_at card r c.if-card-gt-MAX_BYTES.false is.rest is.line is.stage) c.none-sizes.ensures,
+      first_counted card r c.default-sizes.result (first_ready card r c.if-card-gt-MAX_BYTES.false is.rest is.line is.stage)
+          (first_at card r c.if-card-gt-MAX_BYTES.false is.rest is.line is.stage) (search rules),
     )
 
 pub loop-entry-preserved : goal.loop-entry-preserved

@@ -1,41 +1,35 @@
-use Rattle.std.proofs.Common.{◌≡◌, ◌+◌, ◌-◌, false, ◌&&◌, eqb, length, take, sym, refl, ap, ◌∙◌, inl, inr, arith}
+use Rattle.std.proofs.Common.{◌≡◌, ◌+◌, ◌-◌, false, ◌&&◌, eqb, length, Err, subst, rules, sym, refl, ap, ◌∙◌, arith}
 use Rattle.std.proofs.lemmas.List.{take_rest}
-use Rattle.std.proofs.lemmas.Bool.{and_from, and_left, and_right, eq-eqb, ne_eqb}
+use Rattle.std.proofs.lemmas.Bool.{and_left, and_right}
+use Rattle.card.specs.Filling.{ReadsOn}
 use Rattle.card.specs.Judgement.{ends}
-use Rattle.card.specs.Steps.{at_line, line_answered}
-use Rattle.card.proofs.Coming.{bad_end, good_end, one_line, refused_line}
+use Rattle.card.specs.Steps.{at_line}
+use Rattle.card.proofs.Coming.{bad_end, one_line, refused_line}
 use Rattle.card.proofs.reader.Reader.next_entry.Goals as goal
-
-pub returns-then-rest-eq0 : goal.returns-then-rest-eq0
-returns-then-rest-eq0 c card q stands =
-    let r = c.args.self.now in
-    let rest = r.rest.now in
-    good_end card r q stands c.in_default.ensures (and_from (ends r.stage.next) (eqb (length rest) 0) (sym c.if-is_done.ensures) (eq-eqb (length rest) 0 c.if-rest-eq0.true))
+use Rattle.card.proofs.reader.Reader.next_entry.Goals.{else-is_done-via-then-is_done+else-is_empty, else-is_done-via-else-is_done}
 
 pub returns-in_default : goal.returns-in_default
 returns-in_default c card q stands =
     let r = c.args.self.now in
     let rest = r.rest.now in
-    let over : (ends r.stage.next && eqb (length rest) 0) ≡ false = elim c.else-is_done.either [
-      | inl more ↦ and_right (ends r.stage.next) (eqb (length rest) 0) (ne_eqb (length rest) 0 more.1)
-      | inr undone ↦ and_left (ends r.stage.next) (eqb (length rest) 0) (sym c.is_done.ensures ∙ undone)
+    let over : (ends r.stage.next && eqb (length rest) 0) ≡ false = elim c.else-is_done.branch [
+      | else-is_done-via-then-is_done+else-is_empty w ↦ and_right (ends r.stage.next) (eqb (length rest) 0) (sym w.if-is_empty.ensures)
+      | else-is_done-via-else-is_done w ↦ and_left (ends r.stage.next) (eqb (length rest) 0) (sym w.if-is_done.ensures)
     ] in
     bad_end card r q stands c.in_default.ensures over
 
-pub returns-in-Err : goal.returns-in-Err
-returns-in-Err c card q stands =
+pub returns-in_err-step : goal.returns-in_err-step
+returns-in_err-step c card q stands =
     let r = c.args.self.now in
     let rest = r.rest.now in
     let i = c.in-Some.end in
-    let e : i - 0 ≡ i = omega arith in
-    refused_line card r q stands i c.in-Some.ensures (record { refusal = c.in-Err.refusal; line = r.line })
-    (ap (at_line r.line) (c.in-Err.ensures q stands.solid.slots stands.stage ∙ ap (λ k. line_answered q (take k rest)) e))
+    let e = c.in_err-step.field-0.0 in
+    let same : c.from_residual.result ≡ Err e = search rules in
+    subst (ReadsOn card r q r) (sym same) (refused_line card r q stands i c.in-Some.ensures e (c.in_err-step.ensures ∙ ap (at_line r.line) (c.step_over.ensures q stands.solid.slots stands.stage)))
 
 pub returns : goal.returns
 returns c card q stands =
     let r = c.args.self.now in
     let rest = r.rest.now in
     let i = c.in-Some.end in
-    let e : i - 0 ≡ i = omega arith in
-    one_line card r q stands i c.in-Some.ensures c.in-Ok.step _ c.requires
-    (ap (at_line r.line) (c.in-Ok.ensures q stands.solid.slots stands.stage ∙ ap (λ k. line_answered q (take k rest)) e)) refl refl (take_rest rest (i + 1))
+    one_line card r q stands i c.in-Some.ensures c.in_ok-step.step _ c.requires (c.in_ok-step.ensures ∙ ap (at_line r.line) (c.step_over.ensures q stands.solid.slots stands.stage)) refl refl (take_rest rest (i + 1))
