@@ -6,3 +6,5 @@ pub mod Seeking
 pub mod Tupled
 pub mod Counting
 pub mod Combinations
+pub mod Less
+pub mod Chains

@@ -2,7 +2,7 @@
 ghost use Rattle.std.specs.Prelude.{◌≡◌, ◌^◌, ◌≤◌, not, take, drop, if◌then◌else◌, ◌==◌, bit_or, nat_lt};
 ghost use Rattle.banks.specs.Rules.{Alone, all_same, allowed_by, free, rule_sheet};
 ghost use Rattle.network.specs.Sheets.{choices, some_pass, supported};
-ghost use Rattle.std.specs.List.{list_all};
+ghost use Rattle.std.specs.List.{list_all, list_any};
 
 use crate::rule::{Rule, RuleRecord};
 use network::mask::{SLOTS, has_slot, single, slot_from};
@@ -11,24 +11,14 @@ use network::mask::{SLOTS, has_slot, single, slot_from};
 fn all_filled(masks: &[u32]) -> bool
     ensures { result ≡ list_all (λ m. not (m == 0)) masks.now }
 {
-    for mask in masks {
-        if *mask == 0 {
-            return false;
-        }
-    }
-    true
+    masks.iter().all(|mask| *mask != 0)
 }
 
 // Whether some mask is another one.
 fn some_other(masks: &[u32], one: u32) -> bool
-    ensures { result ≡ some_pass (λ m. not (m == one)) masks.now }
+    ensures { result ≡ list_any (λ m. not (m == one)) masks.now }
 {
-    for mask in masks {
-        if *mask != one {
-            return true;
-        }
-    }
-    false
+    masks.iter().any(|mask| *mask != one)
 }
 
 // Whether slots that are not all the same can be chosen, where position `p` has one slot alone.

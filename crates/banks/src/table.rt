@@ -3,7 +3,7 @@ ghost use Rattle.banks.specs.Tables.{table_verdict, tables_verdict};
 ghost use Rattle.std.specs.Prelude.{◌≡◌};
 
 use crate::scope::{MAX_ARITY, MAX_SHEETS, MIN_ARITY, all_distinct, all_in_range, scope_of};
-use crate::tuples::Tuples;
+use crate::tuples::ascend;
 use network::refusal::Refusal;
 
 const MAX_TUPLES: usize = 4096;
@@ -41,12 +41,7 @@ fn check_table(line: &TableRecord, cells: &[u8]) -> Result<(), Refusal>
     if !all_in_range(scope) || !all_in_range(table) {
         return Err(Refusal::OutOfRange);
     }
-    let tuples = Tuples {
-        cells: table,
-        arity,
-        count: line.tuples,
-    };
-    if !all_distinct(scope) || !tuples.ascend() {
+    if !all_distinct(scope) || !ascend(table, arity) {
         return Err(Refusal::Repeated);
     }
     Ok(())

@@ -1,9 +1,12 @@
 use Rattle.std.proofs.Common.{get_or, sym, ap, ◌∙◌}
 use Rattle.network.specs.Sheets.{Sheet}
 use Rattle.banks.specs.Rules.{rule_sheet}
-use Rattle.banks.specs.RulesHold.{no_rule}
+use Rattle.banks.specs.RulesHold.{no_rule, rule_size}
 use Rattle.banks.specs.SheetAt.{sheet_map, sheet_map_past}
 use Rattle.banks.proofs.rule_bank.RuleBankBank.block.Goals as goal
+
+pub block_at-requires : goal.block_at-requires
+block_at-requires c = let b = c.args.self.now in rule_size b.records.now b.ok c.args.c no_rule c.if-c-self.true
 
 pub returns-then-c-self : goal.returns-then-c-self
 returns-then-c-self c =

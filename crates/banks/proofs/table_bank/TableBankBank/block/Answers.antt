@@ -1,9 +1,12 @@
 use Rattle.std.proofs.Common.{get_or, sym, ap, ◌∙◌}
 use Rattle.network.specs.Sheets.{Sheet}
 use Rattle.banks.specs.Tables.{table_sheet}
-use Rattle.banks.specs.TablesHold.{no_table}
+use Rattle.banks.specs.TablesHold.{no_table, table_fine_at}
 use Rattle.banks.specs.SheetAt.{sheet_map, sheet_map_past}
 use Rattle.banks.proofs.table_bank.TableBankBank.block.Goals as goal
+
+pub block_at-requires : goal.block_at-requires
+block_at-requires c = let b = c.args.self.now in (table_fine_at b.cells.now b.records.now b.ok c.args.c no_table c.if-c-self.true).narrow
 
 pub returns-then-c-self : goal.returns-then-c-self
 returns-then-c-self c =
