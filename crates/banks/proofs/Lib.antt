@@ -8,3 +8,4 @@ pub mod Counting
 pub mod Combinations
 pub mod Less
 pub mod Chains
+pub mod Recorded

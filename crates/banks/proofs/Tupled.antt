@@ -1,5 +1,5 @@
 -- The tuples of a table by number, and when they ascend.
-use Rattle.std.proofs.Common.{◌≡◌, ℕ, zero, suc, ◌+◌, ◌-◌, ◌*◌, ◌/◌, ◌<◌, ◌≤◌, true, List, [], ◌∷◌, length, get_or, take, drop, sym, refl, ap, ◌∙◌, inl, inr, add-mul, one-mul, zero-mul, add-one, arith}
+use Rattle.std.proofs.Common.{◌≡◌, ℕ, zero, suc, ◌+◌, ◌*◌, ◌/◌, ◌<◌, ◌≤◌, true, List, [], ◌∷◌, length, get_or, take, drop, sym, refl, ap, ◌∙◌, inl, inr, add-mul, one-mul, zero-mul, add-one, arith}
 use Rattle.std.proofs.Math.Nat.{div-mul-le_self, mul-div_cancel}
 use Rattle.std.proofs.lemmas.List.{drop-drop, length-drop, length-take-le}
 use Rattle.std.proofs.lemmas.Bool.{and_parts}
@@ -8,7 +8,7 @@ use Rattle.network.specs.Tree.{precedes}
 use Rattle.network.proofs.Ascending.{Ascending}
 use Rattle.network.proofs.Order.{precedes_trans}
 use Rattle.banks.specs.declared.table.TableRecord.{TableRecord}
-use Rattle.banks.specs.Tables.{climbs, climbs_from, cut, tuples_in}
+use Rattle.banks.specs.Tables.{climbs, climbs_from, cut, table_cells, tuples_in, tuples_of}
 
 pub length_tuples : (a n : ℕ) (xs : List ℕ) → length (tuples_in a n xs) ≡ n
 length_tuples a zero xs = refl
@@ -50,8 +50,5 @@ pub cut_is : (a n : ℕ) (xs : List ℕ) → 1 ≤ a → length xs ≡ n * a →
 cut_is a n xs l e = ap (λ k. tuples_in a k xs) (ap (λ m. m / a) e ∙ mul-div_cancel n l)
 
 -- a table's part of the cells
-pub part_cut : (cells : List ℕ) (r : TableRecord) → 1 ≤ r.arity → r.first + r.tuples * r.arity ≤ length cells →
-    cut r.arity (take (r.first + r.tuples * r.arity - r.first) (drop r.first cells)) ≡ tuples_in r.arity r.tuples (take (r.first + r.tuples * r.arity - r.first) (drop r.first cells))
-part_cut cells r l h =
-    cut_is r.arity r.tuples (take (r.first + r.tuples * r.arity - r.first) (drop r.first cells)) l
-    (omega (arith, length-take-le (r.first + r.tuples * r.arity - r.first) (drop r.first cells) (omega (arith, length-drop r.first cells))))
+pub part_cut : (cells : List ℕ) (r : TableRecord) → 1 ≤ r.arity → r.first + r.tuples * r.arity ≤ length cells → cut r.arity (table_cells cells r) ≡ tuples_of cells r
+part_cut cells r l h = cut_is r.arity r.tuples (table_cells cells r) l (length-take-le (r.tuples * r.arity) (drop r.first cells) (omega (arith, length-drop r.first cells)))

@@ -1,5 +1,5 @@
 // The tests of a sheet's scope that tables and rules share.
-ghost use Rattle.std.specs.Prelude.{◌≡◌, ◌≤◌, take, nat_eq, nat_lt, slice_index_or};
+ghost use Rattle.std.specs.Prelude.{◌≡◌, ◌≤◌, nat_eq, nat_lt};
 ghost use Rattle.banks.specs.Verdicts.{first_blocks};
 ghost use Rattle.network.specs.Sheets.{is_distinct};
 ghost use Rattle.std.specs.List.{list_all};
@@ -36,21 +36,10 @@ pub fn all_distinct(numbers: &[u8]) -> bool
     true
 }
 
-// The block at a position of a scope, or 255 past it.
-pub(crate) fn block_at(arity: u8, blocks: &[u8; 6], p: usize) -> u8
-    requires { arity ≤ 6 }
-    ensures { result ≡ slice_index_or (first_blocks arity blocks.now) p 255 }
-{
-    scope_of(arity as usize, blocks)
-        .get(p)
-        .copied()
-        .unwrap_or(NO_BLOCK)
-}
-
 // The blocks that a scope of that arity has: the others are not looked at.
-pub(crate) fn scope_of(arity: usize, blocks: &[u8; 6]) -> &[u8]
+pub(crate) fn scope_of(arity: u8, blocks: &[u8; 6]) -> &[u8]
     requires { arity ≤ 6 }
-    ensures { result.now ≡ take arity blocks.now }
+    ensures { result.now ≡ first_blocks arity blocks.now }
 {
-    &blocks[0..arity]
+    &blocks[0..arity as usize]
 }

@@ -1,12 +1,11 @@
 // Whether masks have a choice of one slot each that a table allows.
 ghost use Rattle.std.specs.Prelude.{◌≡◌, ◌^◌, ◌<◌, ◌≤◌, true, length, is_some, IfSome, count_by, nat_lt};
-ghost use Rattle.banks.specs.Tables.{FirstPass, allowed_in, climbs, cut, in_mask, inside, table_sheet};
-ghost use Rattle.banks.specs.TablesHold.{Fine};
-ghost use Rattle.network.specs.Sheets.{choices, some_pass, supported};
+ghost use Rattle.banks.specs.Tables.{FirstPass, allowed_in, climbs, cut, in_mask, inside};
+ghost use Rattle.network.specs.Sheets.{choices, some_pass};
 ghost use Rattle.std.specs.List.{list_all, zip};
 
-use crate::table::{Kind, TableRecord};
-use network::mask::{SLOTS, has_slot, single};
+use crate::table::Kind;
+use network::mask::has_slot;
 
 // The number of the first tuple inside the masks.
 fn first_inside(cells: &[u8], masks: &[u32]) -> Option<usize>
@@ -49,7 +48,7 @@ fn fewer_inside(cells: &[u8], masks: &[u32]) -> bool
 }
 
 // Whether the masks have a choice that a table of these tuples allows.
-fn some_allowed(kind: Kind, cells: &[u8], masks: &[u32]) -> bool
+pub(crate) fn some_allowed(kind: Kind, cells: &[u8], masks: &[u32]) -> bool
     requires low { 0 < length masks.now }
     requires high { length masks.now ≤ 6 }
     requires ascends { climbs (cut (length masks.now) cells.now) ≡ true }
@@ -82,25 +81,4 @@ fn combinations(masks: &[u32]) -> usize
         total *= mask.count_ones() as usize;
     }
     total
-}
-
-// Whether slot `s` has a support at position `p`.
-pub(crate) fn table_supports(
-    line: &TableRecord,
-    cells: &[u8],
-    masks: &[u32; 6],
-    p: usize,
-    s: u8,
-) -> bool
-    requires { Fine cells.now line.now }
-    ensures { result ≡ supported (table_sheet cells.now line.now) masks.now p s }
-{
-    let arity = line.arity as usize;
-    if p >= arity || s >= SLOTS {
-        return false;
-    }
-    let mut tried = *masks;
-    tried[p] = single(s);
-    let table = &cells[line.first..line.first + line.tuples * arity];
-    some_allowed(line.kind, table, &tried[0..arity])
 }
