@@ -5,7 +5,7 @@ ghost use Rattle.std.specs.Prelude.{◌≡◌, ◌+◌, ◌*◌, ◌≤◌, leng
 
 use crate::record::{Record, check_records};
 use crate::scope::{MAX_ARITY, MIN_ARITY, all_distinct, all_in_range, scope_of};
-use crate::table_search::some_allowed;
+use crate::table_search::Search;
 use crate::tuples::ascend;
 use network::refusal::Refusal;
 
@@ -75,7 +75,11 @@ impl Record for TableRecord {
     }
 
     fn allows_some(&self, cells: &[u8], masks: &[u32], _p: usize) -> bool {
-        some_allowed(self.kind, self.part(cells), masks)
+        let search = Search {
+            cells: self.part(cells),
+            masks,
+        };
+        search.some_allowed(self.kind)
     }
 }
 

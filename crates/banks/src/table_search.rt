@@ -7,56 +7,73 @@ ghost use Rattle.std.specs.List.{list_all, zip};
 use crate::table::Kind;
 use network::mask::has_slot;
 
-// The number of the first tuple inside the masks.
-fn first_inside(cells: &[u8], masks: &[u32]) -> Option<usize>
-    requires { 0 < length masks.now }
-    ensures some { is_some result ≡ some_pass (inside masks.now) (cut (length masks.now) cells.now) }
-    ensures first { IfSome result (λ i. FirstPass (inside masks.now) (cut (length masks.now) cells.now) i) }
-{
-    'search: {
-        'tuples: for (i, tuple) in cells.chunks_exact(masks.len()).enumerate() {
-            for (mask, slot) in masks.iter().zip(tuple) {
-                if !has_slot(*mask, *slot) {
-                    continue 'tuples;
-                }
-            }
-            break 'search Some(i);
+// The cells of a table whose tuples ascend, and a mask for each block of its scope.
+#[derive(Clone, Copy)]
+pub(crate) struct Search<'a> {
+    pub cells: &'a [u8],
+    pub masks: &'a [u32],
+    ghost low: { 0 < length masks.now },
+    ghost high: { length masks.now ≤ 6 },
+    ghost ascends: { climbs (cut (length masks.now) cells.now) ≡ true },
+}
+
+impl<'a> Search<'a> {
+    // Whether the masks have a choice that the table allows.
+    pub(crate) fn some_allowed(&self, kind: Kind) -> bool
+        ensures { let ms = self.now.masks.now in result ≡ some_pass (allowed_in kind (length ms) (cut (length ms) self.now.cells.now)) (choices ms) }
+    {
+        match kind {
+            Kind::Allow => self.first_inside().is_some(),
+            Kind::Deny => self.fewer_inside(),
         }
-        None
     }
-}
 
-// How many tuples are inside the masks.
-fn count_inside(cells: &[u8], masks: &[u32]) -> usize
-    requires { 0 < length masks.now }
-    ensures { result ≡ count_by (inside masks.now) (cut (length masks.now) cells.now) }
-{
-    cells
-        .chunks_exact(masks.len())
-        .filter(|tuple| is_inside(tuple, masks))
-        .count()
-}
+    // The number of the first tuple inside the masks.
+    fn first_inside(&self) -> Option<usize>
+        ensures some { let ms = self.now.masks.now in is_some result ≡ some_pass (inside ms) (cut (length ms) self.now.cells.now) }
+        ensures first { let ms = self.now.masks.now in IfSome result (λ i. FirstPass (inside ms) (cut (length ms) self.now.cells.now) i) }
+    {
+        'search: {
+            'tuples: for (i, tuple) in self.cells.chunks_exact(self.masks.len()).enumerate() {
+                for (mask, slot) in self.masks.iter().zip(tuple) {
+                    if !has_slot(*mask, *slot) {
+                        continue 'tuples;
+                    }
+                }
+                break 'search Some(i);
+            }
+            None
+        }
+    }
 
-// Whether fewer tuples are inside the masks than the masks have choices. With more choices than tuples, none is counted.
-fn fewer_inside(cells: &[u8], masks: &[u32]) -> bool
-    requires low { 0 < length masks.now }
-    requires high { length masks.now ≤ 6 }
-    ensures { result ≡ nat_lt (count_by (inside masks.now) (cut (length masks.now) cells.now)) (length (choices masks.now)) }
-{
-    let all = combinations(masks);
-    cells.len() < all * masks.len() || count_inside(cells, masks) < all
-}
+    // Whether fewer tuples are inside the masks than the masks have choices. With more choices than tuples, none is counted.
+    fn fewer_inside(&self) -> bool
+        ensures { let ms = self.now.masks.now in result ≡ nat_lt (count_by (inside ms) (cut (length ms) self.now.cells.now)) (length (choices ms)) }
+    {
+        let all = self.combinations();
+        self.cells.len() < all * self.masks.len() || self.count_inside() < all
+    }
 
-// Whether the masks have a choice that a table of these tuples allows.
-pub(crate) fn some_allowed(kind: Kind, cells: &[u8], masks: &[u32]) -> bool
-    requires low { 0 < length masks.now }
-    requires high { length masks.now ≤ 6 }
-    requires ascends { climbs (cut (length masks.now) cells.now) ≡ true }
-    ensures { result ≡ some_pass (allowed_in kind (length masks.now) (cut (length masks.now) cells.now)) (choices masks.now) }
-{
-    match kind {
-        Kind::Allow => first_inside(cells, masks).is_some(),
-        Kind::Deny => fewer_inside(cells, masks),
+    // How many tuples are inside the masks.
+    fn count_inside(&self) -> usize
+        ensures { let ms = self.now.masks.now in result ≡ count_by (inside ms) (cut (length ms) self.now.cells.now) }
+    {
+        self.cells
+            .chunks_exact(self.masks.len())
+            .filter(|tuple| is_inside(tuple, self.masks))
+            .count()
+    }
+
+    // How many choices of one slot each the masks have.
+    fn combinations(&self) -> usize
+        ensures value { result ≡ length (choices self.now.masks.now) }
+        ensures bound { result ≤ 2 ^ 30 }
+    {
+        let mut total = 1;
+        for mask in self.masks {
+            total *= mask.count_ones() as usize;
+        }
+        total
     }
 }
 
@@ -68,17 +85,4 @@ fn is_inside(tuple: &[u8], masks: &[u32]) -> bool
         .iter()
         .zip(tuple)
         .all(|(mask, slot)| has_slot(*mask, *slot))
-}
-
-// How many choices of one slot each the masks have.
-fn combinations(masks: &[u32]) -> usize
-    requires { length masks.now ≤ 6 }
-    ensures value { result ≡ length (choices masks.now) }
-    ensures bound { result ≤ 2 ^ 30 }
-{
-    let mut total = 1;
-    for mask in masks {
-        total *= mask.count_ones() as usize;
-    }
-    total
 }

@@ -9,8 +9,8 @@ use Rattle.banks.proofs.table.TableRecordRecord.allows_some.Goals as goal
 pub part-requires : goal.part-requires
 part-requires c = (table_accepted c.args.cells.now c.args.self.now c.requires.accepted).there
 
-pub some_allowed-requires : goal.some_allowed-requires
-some_allowed-requires c =
+pub invariant_of-search : goal.invariant_of-search
+invariant_of-search c =
     let r = c.args.self.now in
     let f = table_accepted c.args.cells.now r c.requires.accepted in
     let n : length c.args.masks.now ≡ r.arity = c.requires.sized ∙ blocks_many r.arity r.blocks in

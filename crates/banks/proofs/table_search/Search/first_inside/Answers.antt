@@ -11,16 +11,16 @@ use Rattle.network.specs.Sheets.{some_pass}
 use Rattle.banks.specs.Tables.{FirstPass, cut, in_mask, inside}
 use Rattle.banks.proofs.Chains.{numbered, numbered_road, pairs, pairs_road}
 use Rattle.banks.proofs.Counting.{inside_pairs}
-use Rattle.banks.proofs.table_search.first_inside.Goals as goal
-use Rattle.banks.proofs.table_search.first_inside.Goals.{In-Some, In-Some-2}
+use Rattle.banks.proofs.table_search.Search.first_inside.Goals as goal
+use Rattle.banks.proofs.table_search.Search.first_inside.Goals.{In-Some, In-Some-2}
 
 -- the tuple of a turn of the outer loop
-tuple_at : (c : In-Some) → let ts = cut (length c.args.masks.now) c.args.cells.now in
+tuple_at : (c : In-Some) → let ts = cut (length c.args.self.now.masks.now) c.args.self.now.cells.now in
     (length c.tuples.yielded < length ts) × (c.in-Some.i ≡ length c.tuples.yielded) × (c.in-Some.tuple.now ≡ get_or ts (length c.tuples.yielded) [])
 tuple_at c =
-    let a = length c.args.masks.now in
-    let road = numbered_road a c.args.cells.now c.requires c.enumerate-i-items.ensures.source c.enumerate-i-items.ensures.count c.chunks_exact.ensures.rest c.chunks_exact.ensures.size in
-    numbered (cut a c.args.cells.now) (length c.tuples.yielded) (c.in-Some.i, c.in-Some.tuple)
+    let a = length c.args.self.now.masks.now in
+    let road = numbered_road a c.args.self.now.cells.now c.args.self.now.low c.enumerate-i-items.ensures.source c.enumerate-i-items.ensures.count c.chunks_exact.ensures.rest c.chunks_exact.ensures.size in
+    numbered (cut a c.args.self.now.cells.now) (length c.tuples.yielded) (c.in-Some.i, c.in-Some.tuple)
     (YieldsList-turn (YieldsList-at c.into_iter-i-iterator.ensures.into_iter_gives road) c.tuples.yielded _ c.tuples.yielded_by _ _ (c.in-Some.i, c.in-Some.tuple) c.in-Some.is c.next.ensures.steps)
 
 -- the pair of a turn of the inner loop
@@ -42,14 +42,14 @@ told ms cells t n ps b l e z h =
 
 pub tuples-preserved : goal.tuples-preserved
 tuples-preserved c =
-    let ms = c.args.masks.now in
-    let ts = cut (length ms) c.args.cells.now in
+    let ms = c.args.self.now.masks.now in
+    let ts = cut (length ms) c.args.self.now.cells.now in
     let n = length c.tuples.yielded in
     let t = tuple_at (goal.at.tuples-preserved c).In-Some in
     let p = pair_at (goal.at.tuples-preserved c).In-Some-2 in
     let ps = pairs c.into_iter-mask-iterator.result in
     let no : list_all in_mask ps ≡ false = list_all_at in_mask ps (length c.loop-mask.yielded) _ p.0 (ap in_mask (sym p.1) ∙ sym c.if-not-has_slot.ensures) in
-    let out : inside ms (get_or ts n []) ≡ false = told ms c.args.cells.now c.in-Some.tuple.now n ps false t.0 t.2 (ap₂ zip (cc) (cc)) no in
+    let out : inside ms (get_or ts n []) ≡ false = told ms c.args.self.now.cells.now c.in-Some.tuple.now n ps false t.0 t.2 (ap₂ zip (cc) (cc)) no in
     ap (λ k. some_pass (inside ms) (take k ts)) (length-append c.tuples.yielded ((c.in-Some.i, c.in-Some.tuple) ∷ [])) ∙ ap (some_pass (inside ms)) (take_more ts n [] t.0)
     ∙ some_append (inside ms) (take n ts) (get_or ts n [] ∷ []) ∙ ap₂ (λ x y. x || (y || false)) c.tuples.invariant out
 
@@ -63,14 +63,14 @@ loop-mask-preserved c =
 
 pub returns-in-None-2 : goal.returns-in-None-2
 returns-in-None-2 c =
-    let ms = c.args.masks.now in
-    let ts = cut (length ms) c.args.cells.now in
+    let ms = c.args.self.now.masks.now in
+    let ts = cut (length ms) c.args.self.now.cells.now in
     let n = length c.tuples.yielded in
     let t = tuple_at (goal.at.returns-in-None-2 c).In-Some in
     let ps = pairs c.into_iter-mask-iterator.result in
     let end = YieldsList-end (pairs_road c.into_iter-mask-iterator.result) c.loop-mask.yielded c.loop-mask.mask-iterator c.loop-mask.yielded_by _ c.next-in-loop-mask.new.self c.in-None-2.is c.next-in-loop-mask.ensures.steps in
     let all : list_all in_mask ps ≡ true = ap (list_all in_mask) (sym (take_all (length c.loop-mask.yielded) ps (omega (arith, end.1)))) ∙ c.loop-mask.invariant in
-    let within : inside ms (get_or ts n []) ≡ true = told ms c.args.cells.now c.in-Some.tuple.now n ps true t.0 t.2 (ap₂ zip (cc) (cc)) all in
+    let within : inside ms (get_or ts n []) ≡ true = told ms c.args.self.now.cells.now c.in-Some.tuple.now n ps true t.0 t.2 (ap₂ zip (cc) (cc)) all in
     record {
       some = sym (some_from (inside ms) ts (get_or ts n []) (in_at ts n [] t.0) within);
       first = subst (FirstPass (inside ms) ts) (sym t.1) (record { there = t.0; passes = within; none_before = c.tuples.invariant });
@@ -78,9 +78,9 @@ returns-in-None-2 c =
 
 pub returns-in-None : goal.returns-in-None
 returns-in-None c =
-    let ms = c.args.masks.now in
-    let ts = cut (length ms) c.args.cells.now in
-    let road = numbered_road (length ms) c.args.cells.now c.requires c.enumerate-i-items.ensures.source c.enumerate-i-items.ensures.count c.chunks_exact.ensures.rest c.chunks_exact.ensures.size in
+    let ms = c.args.self.now.masks.now in
+    let ts = cut (length ms) c.args.self.now.cells.now in
+    let road = numbered_road (length ms) c.args.self.now.cells.now c.args.self.now.low c.enumerate-i-items.ensures.source c.enumerate-i-items.ensures.count c.chunks_exact.ensures.rest c.chunks_exact.ensures.size in
     let end = YieldsList-end (YieldsList-at c.into_iter-i-iterator.ensures.into_iter_gives road) c.tuples.yielded _ c.tuples.yielded_by _ _ c.in-None.is c.next.ensures.steps in
     record {
       some = sym c.tuples.invariant ∙ ap (some_pass (inside ms)) (take_all (length c.tuples.yielded) ts (omega (arith, end.1, length-enumerate_from 0 ts)));
