@@ -14,12 +14,6 @@ pub length_tuples : (a n : ℕ) (xs : List ℕ) → length (tuples_in a n xs) �
 length_tuples a zero xs = refl
 length_tuples a (suc n) xs = ap suc (length_tuples a n (drop a xs))
 
-pub tuple_is : (a n : ℕ) (xs : List ℕ) (i : ℕ) → i < n → get_or (tuples_in a n xs) i [] ≡ take a (drop (i * a) xs)
-tuple_is a zero xs i l = absurd (omega arith)
-tuple_is a (suc n) xs zero l = sym (ap (λ k. take a (drop k xs)) (zero-mul a))
-tuple_is a (suc n) xs (suc i) l =
-    tuple_is a n (drop a xs) i (omega arith) ∙ ap (take a) (drop-drop (i * a) a xs ∙ ap (λ k. drop k xs) (omega (arith, add-mul i 1 a, one-mul a, add-one i)))
-
 -- a list that climbs ascends
 after : (t : List ℕ) (ts : List (List ℕ)) → climbs_from t ts ≡ true → (y : List ℕ) → In y ts → precedes t y ≡ true
 after t [] h y m = absurd m
