@@ -9,3 +9,4 @@ pub mod Combinations
 pub mod Less
 pub mod Chains
 pub mod Recorded
+pub mod Placed

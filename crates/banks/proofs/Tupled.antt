@@ -1,7 +1,7 @@
 -- The tuples of a table by number, and when they ascend.
-use Rattle.std.proofs.Common.{◌≡◌, ℕ, zero, suc, ◌+◌, ◌*◌, ◌/◌, ◌<◌, ◌≤◌, true, List, [], ◌∷◌, length, get_or, take, drop, sym, refl, ap, ◌∙◌, inl, inr, add-mul, one-mul, zero-mul, add-one, arith}
+use Rattle.std.proofs.Common.{◌≡◌, ℕ, zero, suc, ◌+◌, ◌*◌, ◌/◌, ◌≤◌, true, List, [], ◌∷◌, length, drop, refl, ap, ◌∙◌, inl, inr, add-mul, one-mul, add-one, arith}
 use Rattle.std.proofs.Math.Nat.{div-mul-le_self, mul-div_cancel}
-use Rattle.std.proofs.lemmas.List.{drop-drop, length-drop, length-take-le}
+use Rattle.std.proofs.lemmas.List.{length-drop, length-take-le}
 use Rattle.std.proofs.lemmas.Bool.{and_parts}
 use Rattle.network.specs.Sheets.{In}
 use Rattle.network.specs.Tree.{precedes}
