@@ -1,19 +1,18 @@
 -- What a chain of iterators answers, from the list that it gives.
-use Rattle.std.proofs.Common.{◌≡◌, ℕ, suc, ◌+◌, ◌/◌, ◌<◌, Bool, true, false, ◌&&◌, List, [], ◌∷◌, ◌++◌, length, get_or, take, drop, Option, Some, None, sym, refl, ap, ap₂, ◌∙◌, subst, inl, inr, add-one, arith, zero-le, length-append}
+use Rattle.std.proofs.Common.{◌≡◌, ℕ, suc, ◌+◌, ◌/◌, ◌<◌, Bool, true, false, ◌&&◌, List, [], ◌∷◌, ◌++◌, length, get_or, take, drop, Option, Some, None, sym, refl, ap, ap₂, ◌∙◌, subst, inl, inr, add-one, arith, length-append}
 use denote.Param.Members.{Mut}
 use denote.Ref.{Bor}
-use Rattle.std.specs.Bool.{MatchBool}
-use Rattle.std.specs.Fn.{Called, CalledAtTwo}
-use Rattle.std.specs.Iterator.{AlwaysYields, Yields, YieldsThen}
+use Rattle.std.specs.Fn.{CalledAtTwo}
+use Rattle.std.specs.Iterator.{AlwaysYields, Yields}
 use Rattle.std.specs.Iterator.Order.{ChecksNeighbours, OrderTurn}
-use Rattle.std.specs.List.{enumerate_from, list_all, zip, AllWithin, HoldsAt, FoldsTo}
+use Rattle.std.specs.List.{enumerate_from, zip, FoldsTo}
 use Rattle.std.specs.Option.{MatchOption}
 use Rattle.std.specs.declared.iter.Enumerate.{Enumerate}
 use Rattle.std.specs.declared.iter.Zip.{Zip}
 use Rattle.std.specs.declared.slice.Iter.{Iter}
 use Rattle.std.specs.Iterator.Adapters.{enumerate_count, enumerate_source, enumerate_steps, zip_first, zip_second}
 use Rattle.std.proofs.iter.Yields.{fronts}
-use Rattle.std.proofs.lemmas.Iterator.{YieldsList, YieldsList-from_slice, YieldsList-from_zip, cases_from_all, zips}
+use Rattle.std.proofs.lemmas.Iterator.{YieldsList, YieldsList-from_slice, YieldsList-from_zip, zips}
 use Rattle.std.proofs.lemmas.Iterator.Consumers.{YieldsList-at, YieldsList-from_enumerate}
 use Rattle.std.proofs.lemmas.Iterator.Splits.{YieldsList-from_shown_while}
 use Rattle.std.specs.Slice.Iter.{iter_rest, chunks_exact_rest, chunks_exact_size, chunks_exact_steps}
@@ -22,31 +21,10 @@ use Rattle.std.proofs.Math.Seq.{drop-append_seam, take-append_seam}
 use Rattle.std.proofs.Math.Nat.{add-div_left, div-eq_of_lt}
 use Rattle.std.proofs.lemmas.List.FromFn.{get_or-enumerate_from, length-enumerate_from}
 use Rattle.std.proofs.lemmas.List.{get_or_default}
-use Rattle.std.proofs.lemmas.List.Folds.{list_all_at}
 use Rattle.network.specs.Tree.{precedes}
 use Rattle.banks.specs.Tables.{climbs, climbs_from, cut, tuples_in}
 use Rattle.banks.proofs.Tupled.{length_tuples}
-use Rattle.std.proofs.lemmas.Bool.{and_from, and_left}
-
-all_pass : {B : Type 0} (test : B → Bool) (xs : List B) → ((k : ℕ) (d : B) → k < length xs → test (get_or xs k d) ≡ true) → list_all test xs ≡ true
-all_pass test [] h = refl
-all_pass test (x ∷ xs) h = and_from (test x) (list_all test xs) (h 0 x (omega arith)) (all_pass test xs (λ k d l. h (suc k) d (omega arith)))
-
-one_fails : {B : Type 0} (test : B → Bool) (xs : List B) (k : ℕ) → k < length xs → HoldsAt (λ y. test y ≡ false) xs k → list_all test xs ≡ false
-one_fails test [] k l h = absurd (omega arith)
-one_fails test (x ∷ xs) k l h = list_all_at test (x ∷ xs) k x l (h x)
-
--- `all`, where the closure answers by a test
-module _ {S A B F : Type 0} {steps : S → Option A → S → Type 0} {v : A → B} {g : Mut F (A × Unit {0}) Bool} {s : S} {all : List B} where
-  pub all_answers : (u : S) (f : F) (r : Bool) (test : B → Bool) →
-      ((xs : List A) × (o : Option A) × (j : F) × YieldsThen steps s xs o u × FoldsTo (λ p x q. Called g p (x, tt) true q) f xs j × MatchOption o (r ≡ true) (λ x. (r ≡ false) × ((h : F) × Called g j (x, tt) false h))) →
-      YieldsList steps v s all → ((x : A) (b : Bool) (q : F) → Called g f (x, tt) b q → (q ≡ f) × (b ≡ test (v x))) → r ≡ list_all test all
-  all_answers u f r test ran road answers = go r (cases_from_all u f r (λ y. test y ≡ true) (λ y. test y ≡ false) ran road
-      (λ x q k. let a = answers x true q k in (a.0, sym a.1)) (λ x q k. sym (answers x false q k).1))
-    where
-      go : (b : Bool) → MatchBool b (AllWithin (λ y. test y ≡ true) all 0 (length all)) ((k : ℕ) × (k < length all) × HoldsAt (λ y. test y ≡ false) all k) → b ≡ list_all test all
-      go true h = sym (all_pass test all (λ k d l. h k d zero-le l))
-      go false h = sym (one_fails test all h.0 h.1 h.2)
+use Rattle.std.proofs.lemmas.Bool.{and_left}
 
 -- `is_sorted_by`, where the closure says whether a tuple comes before another
 module _ {S A F : Type 0} (steps : S → Option A → S → Type 0) (v : A → List ℕ) {g : Mut F (Bor A × (Bor A × Unit {0})) Bool} (f : F)

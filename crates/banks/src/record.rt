@@ -8,12 +8,15 @@ ghost use Rattle.std.specs.Prelude.{◌≡◌, ℕ, ◌≤◌, true, List, lengt
 use crate::scope::MAX_SHEETS;
 use network::refusal::Refusal;
 
-// A record stands over cells, which it may refer to.
+// A record stands over cells, which it may refer to. Its module is private, so that other crates see only the banks and the checks.
 pub trait Record {
+    // The blocks that its sheet ties, whatever the cells are.
     ghost scope: { Self → List ℕ };
 
+    // The sheet that it stands for.
     ghost sheet: { List ℕ → Self → Sheet };
 
+    // What its check answers.
     ghost verdict: { List ℕ → Self → Verdict };
 
     ghost same_scope: { (cells : List ℕ) (r : Self) → (sheet cells r).scope ≡ scope r };

@@ -1,15 +1,11 @@
-use Rattle.std.proofs.Common.{◌*◌, ◌^◌, ◌<◌, ◌/◌, length, count_by, sym, ◌∙◌, arith}
+use Rattle.std.proofs.Common.{◌*◌, ◌<◌, ◌/◌, length, count_by, sym, ◌∙◌, arith}
 use Rattle.std.proofs.Math.Nat.{div-lt_iff_lt-mul}
-use Rattle.std.proofs.lemmas.Nat.{mul-le}
 use Rattle.std.proofs.lemmas.List.Sums.{count_by-le-length}
 use Rattle.std.proofs.lemmas.Bool.{lt-ltb}
 use Rattle.network.specs.Sheets.{choices}
 use Rattle.banks.specs.Tables.{cut, inside}
 use Rattle.banks.proofs.Tupled.{length_tuples}
 use Rattle.banks.proofs.table_search.Search.fewer_inside.Goals as goal
-
-pub overflow_mul-all : goal.overflow_mul-all
-overflow_mul-all c = record { fits = omega (arith, mul-le c.combinations-all.result (length c.args.self.now.masks.now) (2 ^ 30) 6 c.combinations-all.ensures.bound c.args.self.now.high) }
 
 pub returns-then-self-all : goal.returns-then-self-all
 returns-then-self-all c =
