@@ -1,5 +1,5 @@
 -- Tables: the check of their records, and the sheets that they stand for.
-use Rattle.std.specs.Prelude.{◌≡◌, ℕ, zero, suc, ◌+◌, ◌*◌, ◌<◌, Bool, true, false, cond, not, ◌&&◌, ◌||◌, ltb, List, [], ◌∷◌, map, length, take, drop, Ok, ◌==◌, nat_eq, nat_lt, slice_index_or}
+use Rattle.std.specs.Prelude.{◌≡◌, ℕ, zero, suc, ◌+◌, ◌*◌, ◌/◌, ◌<◌, Bool, true, false, cond, not, ◌&&◌, ◌||◌, ltb, List, [], ◌∷◌, map, length, take, drop, Ok, ◌==◌, nat_eq, nat_lt, slice_index_or}
 use Rattle.std.specs.List.{list_all}
 use Rattle.network.specs.Sheets.{has, is_distinct, same_list, Sheet, some_pass}
 use Rattle.network.specs.Tree.{precedes}
@@ -13,6 +13,10 @@ use Rattle.banks.specs.Verdicts.{Verdict, accepts, first_blocks, ill_sized, on_r
 abbrev pub tuples_in : ℕ → ℕ → List ℕ → List (List ℕ)
 tuples_in a zero xs = []
 tuples_in a (suc n) xs = take a xs ∷ tuples_in a n (drop a xs)
+
+-- cells as tuples of one arity
+abbrev pub cut : ℕ → List ℕ → List (List ℕ)
+cut a xs = tuples_in a (length xs / a) xs
 
 abbrev pub table_scope : TableRecord → List ℕ
 table_scope r = first_blocks r.arity r.blocks
@@ -61,12 +65,16 @@ table_sheet cells r = record { scope = table_scope r; allows = allowed_in r.kind
 abbrev pub tables_meaning : List ℕ → List TableRecord → List Sheet
 tables_meaning cells rs = cond (accepts (tables_verdict cells rs)) (map (table_sheet cells) rs) []
 
+-- a slot is in the mask beside it
+abbrev pub in_mask : ℕ × ℕ → Bool
+in_mask p = nat_lt p.1 32 && has p.0 p.1
+
 -- each slot of the tuple is in its mask
 abbrev pub inside : List ℕ → List ℕ → Bool
 inside [] [] = true
 inside [] (s ∷ t) = false
 inside (m ∷ ms) [] = false
-inside (m ∷ ms) (s ∷ t) = (nat_lt s 32 && has m s) && inside ms t
+inside (m ∷ ms) (s ∷ t) = in_mask (m, s) && inside ms t
 
 -- the element of that place passes, and none before it does
 pub record FirstPass (f : List ℕ → Bool) (ts : List (List ℕ)) (i : ℕ) : Type 0 where

@@ -1,25 +1,42 @@
 // Whether masks have a choice of one slot each that a table allows.
-ghost use Rattle.std.specs.Prelude.{◌≡◌, ◌≤◌, true, length, is_some, IfSome, count_by, nat_lt};
-ghost use Rattle.banks.specs.Tables.{FirstPass, allowed_in, climbs, inside, table_sheet, tuples_in};
-ghost use Rattle.banks.specs.TablesHold.{Fine};
-ghost use Rattle.network.specs.Sheets.{choices, some_pass, supported};
+ghost use Rattle.std.specs.Prelude.{◌≡◌, ◌^◌, ◌<◌, ◌≤◌, true, length, is_some, IfSome, count_by, nat_lt};
+ghost use Rattle.banks.specs.Tables.{FirstPass, allowed_in, climbs, cut, in_mask, inside};
+ghost use Rattle.network.specs.Sheets.{choices, some_pass};
+ghost use Rattle.std.specs.List.{list_all, zip};
 
-use crate::table::{Kind, TableRecord};
-use crate::tuples::Tuples;
-use network::mask::{SLOTS, has_slot, single};
+use crate::table::Kind;
+use network::mask::has_slot;
 
-impl<'a> Tuples<'a> {
+// The cells of a table whose tuples ascend, and a mask for each block of its scope.
+#[derive(Clone, Copy)]
+pub(crate) struct Search<'a> {
+    pub cells: &'a [u8],
+    pub masks: &'a [u32],
+    ghost low: { 0 < length masks.now },
+    ghost high: { length masks.now ≤ 6 },
+    ghost ascends: { climbs (cut (length masks.now) cells.now) ≡ true },
+}
+
+impl<'a> Search<'a> {
+    // Whether the masks have a choice that the table allows.
+    pub(crate) fn some_allowed(&self, kind: Kind) -> bool
+        ensures { let ms = self.now.masks.now in result ≡ some_pass (allowed_in kind (length ms) (cut (length ms) self.now.cells.now)) (choices ms) }
+    {
+        match kind {
+            Kind::Allow => self.first_inside().is_some(),
+            Kind::Deny => self.fewer_inside(),
+        }
+    }
+
     // The number of the first tuple inside the masks.
-    fn first_inside(&self, masks: &[u32]) -> Option<usize>
-        requires { length masks.now ≡ self.now.arity }
-        ensures some { is_some result ≡ some_pass (inside masks.now) (tuples_in self.now.arity self.now.count self.now.cells.now) }
-        ensures first { IfSome result (λ i. FirstPass (inside masks.now) (tuples_in self.now.arity self.now.count self.now.cells.now) i) }
+    fn first_inside(&self) -> Option<usize>
+        ensures some { let ms = self.now.masks.now in is_some result ≡ some_pass (inside ms) (cut (length ms) self.now.cells.now) }
+        ensures first { let ms = self.now.masks.now in IfSome result (λ i. FirstPass (inside ms) (cut (length ms) self.now.cells.now) i) }
     {
         'search: {
-            'tuples: for i in 0..self.count {
-                let tuple = self.at(i);
-                for q in 0..self.arity {
-                    if !has_slot(masks[q], tuple[q]) {
+            'tuples: for (i, tuple) in self.cells.chunks_exact(self.masks.len()).enumerate() {
+                for (mask, slot) in self.masks.iter().zip(tuple) {
+                    if !has_slot(*mask, *slot) {
                         continue 'tuples;
                     }
                 }
@@ -29,88 +46,43 @@ impl<'a> Tuples<'a> {
         }
     }
 
-    // How many tuples are inside the masks.
-    fn count_inside(&self, masks: &[u32]) -> usize
-        requires { length masks.now ≡ self.now.arity }
-        ensures { result ≡ count_by (inside masks.now) (tuples_in self.now.arity self.now.count self.now.cells.now) }
-    {
-        let mut count = 0;
-        for i in 0..self.count {
-            if is_inside(self.at(i), masks) {
-                count += 1;
-            }
-        }
-        count
-    }
-
     // Whether fewer tuples are inside the masks than the masks have choices. With more choices than tuples, none is counted.
-    fn fewer_inside(&self, masks: &[u32]) -> bool
-        requires { length masks.now ≡ self.now.arity }
-        ensures { result ≡ nat_lt (count_by (inside masks.now) (tuples_in self.now.arity self.now.count self.now.cells.now)) (length (choices masks.now)) }
+    fn fewer_inside(&self) -> bool
+        ensures { let ms = self.now.masks.now in result ≡ nat_lt (count_by (inside ms) (cut (length ms) self.now.cells.now)) (length (choices ms)) }
     {
-        let all = combinations(masks);
-        self.count < all || self.count_inside(masks) < all
+        let all = self.combinations();
+        self.cells.len() < all * self.masks.len() || self.count_inside() < all
     }
 
-    // Whether the masks have a choice that a table of these tuples allows.
-    fn some_allowed(&self, kind: Kind, masks: &[u32]) -> bool
-        requires { (climbs (tuples_in self.now.arity self.now.count self.now.cells.now) ≡ true) × (length masks.now ≡ self.now.arity) }
-        ensures { result ≡ some_pass (allowed_in kind self.now.arity (tuples_in self.now.arity self.now.count self.now.cells.now)) (choices masks.now) }
+    // How many tuples are inside the masks.
+    fn count_inside(&self) -> usize
+        ensures { let ms = self.now.masks.now in result ≡ count_by (inside ms) (cut (length ms) self.now.cells.now) }
     {
-        match kind {
-            Kind::Allow => self.first_inside(masks).is_some(),
-            Kind::Deny => self.fewer_inside(masks),
+        self.cells
+            .chunks_exact(self.masks.len())
+            .filter(|tuple| is_inside(tuple, self.masks))
+            .count()
+    }
+
+    // How many choices of one slot each the masks have.
+    fn combinations(&self) -> usize
+        ensures value { result ≡ length (choices self.now.masks.now) }
+        ensures bound { result ≤ 2 ^ 30 }
+    {
+        let mut total = 1;
+        for mask in self.masks {
+            total *= mask.count_ones() as usize;
         }
+        total
     }
 }
 
 // Whether each slot of the tuple is in its mask.
 fn is_inside(tuple: &[u8], masks: &[u32]) -> bool
-    requires { length tuple.now ≡ length masks.now }
-    ensures { result ≡ inside masks.now tuple.now }
+    ensures { result ≡ list_all in_mask (zip masks.now tuple.now) }
 {
-    for q in 0..tuple.len() {
-        if !has_slot(masks[q], tuple[q]) {
-            return false;
-        }
-    }
-    true
-}
-
-// How many choices of one slot each the masks have.
-fn combinations(masks: &[u32]) -> usize
-    requires { length masks.now ≤ 6 }
-    ensures { result ≡ length (choices masks.now) }
-{
-    let mut total = 1;
-    for mask in masks {
-        total *= mask.count_ones() as usize;
-    }
-    total
-}
-
-// Whether slot `s` has a support at position `p`.
-pub(crate) fn table_supports(
-    line: &TableRecord,
-    cells: &[u8],
-    masks: &[u32; 6],
-    p: usize,
-    s: u8,
-) -> bool
-    requires { Fine cells.now line.now }
-    ensures { result ≡ supported (table_sheet cells.now line.now) masks.now p s }
-{
-    let arity = line.arity as usize;
-    if p >= arity || s >= SLOTS {
-        return false;
-    }
-    let mut tried = *masks;
-    tried[p] = single(s);
-    let table = &cells[line.first..line.first + line.tuples * arity];
-    let tuples = Tuples {
-        cells: table,
-        arity,
-        count: line.tuples,
-    };
-    tuples.some_allowed(line.kind, &tried[0..arity])
+    masks
+        .iter()
+        .zip(tuple)
+        .all(|(mask, slot)| has_slot(*mask, *slot))
 }

@@ -1,0 +1,23 @@
+use Rattle.std.proofs.Common.{length, sym, ap, ◌∙◌}
+use Rattle.network.specs.Sheets.{Sheet}
+use Rattle.banks.proofs.Recorded.{scope_few, scope_got, sheet_missed}
+use Rattle.banks.proofs.record_bank.RecordBankBank.arity.Goals as goal
+
+pub scope-requires : goal.scope-requires
+scope-requires g c =
+    let R = g.R.Record in
+    let b = c.args.self.now in
+    let k = c.in-Some.ensures.lookup in
+    scope_few (R.verdict b.cells.now) (R.sheet b.cells.now) R.scope (R.same_scope b.cells.now) (R.lawful b.cells.now) b.records.now b.ok c.args.c c.in-Some.line.now k.3.0 k.1
+
+pub returns-in-Some : goal.returns-in-Some
+returns-in-Some g c =
+    let R = g.R.Record in
+    let b = c.args.self.now in
+    let k = c.in-Some.ensures.lookup in
+    ap length (c.scope.ensures.value ∙ sym (scope_got (R.verdict b.cells.now) (R.sheet b.cells.now) R.scope (R.same_scope b.cells.now) (R.lawful b.cells.now) b.records.now b.ok c.args.c c.in-Some.line.now k.3.0 k.1))
+
+pub returns-in-None : goal.returns-in-None
+returns-in-None g c =
+    let b = c.args.self.now in
+    ap (λ (sh : Sheet). length sh.scope) (sym (sheet_missed (g.R.Record.sheet b.cells.now) b.records.now c.args.c c.in-None.ensures.lookup.3))

@@ -1,6 +1,0 @@
-use Rattle.std.proofs.Common.{◌≡◌, drop}
-use Rattle.network.specs.Tree.{precedes}
-use Rattle.banks.proofs.tuples.comes_before.Given as goal
-
-abbrev pub invariant-loop-q : goal.invariant-loop-q
-invariant-loop-q l = precedes (drop l.q l.a) (drop l.q l.b) ≡ precedes l.a l.b
