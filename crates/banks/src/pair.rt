@@ -35,8 +35,7 @@ impl<A: Bank, B: Bank> Bank for Pair<A, B> {
     ghost lawful = { λ p. both_lawful (A.Bank.meaning p.first) (B.Bank.meaning p.second) (A.Bank.lawful p.first) (B.Bank.lawful p.second) };
 
     fn count(&self) -> usize {
-        let all = self.first.count() + self.second.count();
-        if all < MAX_SHEETS { all } else { MAX_SHEETS }
+        (self.first.count() + self.second.count()).min(MAX_SHEETS)
     }
 
     fn arity(&self, c: usize) -> usize {

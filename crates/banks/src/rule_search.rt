@@ -4,7 +4,7 @@ ghost use Rattle.banks.specs.Rules.{Alone, all_same, free};
 ghost use Rattle.network.specs.Sheets.{choices, some_pass};
 ghost use Rattle.std.specs.List.{list_all, list_any};
 
-use network::mask::{has_slot, single, slot_from};
+use network::mask::{has_slot, single, slots_of};
 
 // Whether each mask has a slot.
 fn all_filled(masks: &[u32]) -> bool
@@ -42,12 +42,10 @@ pub(crate) fn some_distinct(masks: &[u32], used: u32) -> bool
     let [mask, rest @ ..] = masks else {
         return true;
     };
-    let mut from = 0;
-    while let Some(s) = slot_from(*mask, from) {
+    for s in slots_of(*mask) {
         if !has_slot(used, s) && some_distinct(rest, with_slot(used, s)) {
             return true;
         }
-        from = s + 1;
     }
     false
 }

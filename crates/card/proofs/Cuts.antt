@@ -14,10 +14,6 @@ cut_at c (x ∷ xs) zero l none here = rw (eq-eqb x c here)
 cut_at c (x ∷ xs) (suc i) l none here =
     rw (ne_eqb x c (none 0 (omega arith))) (ap (push_front x) (cut_at c xs i (omega arith) (λ k h. none (suc k) (omega arith)) here))
 
-pub cut_nowhere : (c : ℕ) (bs : List ℕ) → ((k : ℕ) → k < length bs → get_or bs k 0 ≡ c → ⊥) → (cut c bs).found ≡ false
-cut_nowhere c [] none = refl
-cut_nowhere c (x ∷ xs) none = rw (ne_eqb x c (none 0 (omega arith))) (cut_nowhere c xs (λ k h. none (suc k) (omega arith)))
-
 under : (a b : ℕ) → ltb a b ≡ ltb (1 + a) (suc b)
 under a b = elim (cases_lt a b) [ inl l ↦ lt-ltb a b l ∙ sym (lt-ltb (1 + a) (suc b) (omega arith)) | inr l ↦ le-ltb a b l ∙ sym (le-ltb (1 + a) (suc b) (omega arith)) ]
 

@@ -6,14 +6,11 @@ pub mod Cuts
 pub mod Capped
 pub mod Packing
 pub mod Texts
-pub mod Keys
 pub mod Checking
-pub mod Before
 pub mod Stepping
 pub mod Tupling
 pub mod Solids
 pub mod Judging
-pub mod Growing
 pub mod Putting
 pub mod Adding
 pub mod Coming

@@ -22,13 +22,6 @@ first_counted card r s ready stands is = record {
   sizes = is;
 }
 
--- there are few enough to count one entry more
-pub few_enough : {card : List ℕ} {r : Reader} {q : Reading} {s : Sizes} → Counted card r q s → Few 32769 s
-few_enough c =
-    let f = c.few in
-    let h = c.ready.short in
-    record { masks = omega arith; tables = omega arith; cells = omega arith; rules = omega arith }
-
 module _ {card : List ℕ} {r : Reader} {q : Reading} {old : Sizes} (c : Counted card r q old) (s : Reader) (x : Entry) (new : Sizes) (goes : ReadsOn card r q s (Ok (Some x)))
     (few : (n : ℕ) → Few n old → Few (n + 1) new) (sizes : (m : Memory) → old ≡ sizes_of m → new ≡ sizes_of (added x m)) where
   pub later_counted : Counted card s goes.2.0 new

@@ -1,10 +1,7 @@
 -- After which line a card has been read.
-use Rattle.std.specs.Prelude.{◌≡◌, Bool, true, false, Ok, Err, Result}
-use Rattle.card.specs.declared.refusal.CardRefusal.{CardRefusal}
+use Rattle.std.specs.Prelude.{Bool, true, false}
 use Rattle.card.specs.declared.stage.Expected.{Expected}
 use Rattle.card.specs.declared.stage.Expected.TheVariants.{Blocks, Open, Sheets, Kind, Scope, Tuples, Tuple, Rules, Rule, RuleScope, End, Nothing}
-use Rattle.card.specs.Spelling.{Network}
-use Rattle.card.specs.Verdict.{fault, spelled, Verdict}
 
 -- nothing more is due
 abbrev pub ends : Expected → Bool

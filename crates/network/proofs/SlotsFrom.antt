@@ -1,13 +1,13 @@
 -- The slots of a mask from a slot on: the first of them, and those after it.
-use Rattle.std.proofs.Common.{◌≡◌, ℕ, zero, suc, ◌+◌, ◌-◌, ◌/◌, ◌%◌, ◌^◌, ◌<◌, ◌≤◌, true, false, cond, eqb, List, [], ◌∷◌, Some, None, filter, sym, refl, ap, ◌∙◌, subst, inl, inr, ⊎_elim, pow-suc, add-one, arith, pow_mono}
+use Rattle.std.proofs.Common.{◌≡◌, ℕ, zero, suc, ◌+◌, ◌-◌, ◌/◌, ◌%◌, ◌^◌, ◌<◌, ◌≤◌, true, false, cond, eqb, ltb, List, [], ◌∷◌, Some, None, filter, sym, refl, ap, ◌∙◌, subst, inl, inr, ⊎_elim, pow-suc, add-one, arith, pow_mono}
 use native.Mathlib.Nat.{div-eq_of_lt}
 use lib.Count.{count_trailing_zeros, under}
-use Rattle.std.specs.List.{range_with_len}
+use Rattle.std.specs.List.{list_all, range_with_len}
 use Rattle.std.proofs.lemmas.Nat.{shr-shr, shr_le, div_below}
-use Rattle.std.proofs.lemmas.Bool.{cond-true, cond-false, eq-eqb, ne_eqb, cases_Bool, both_ways, cases_lt}
+use Rattle.std.proofs.lemmas.Bool.{cond-true, cond-false, eq-eqb, ne_eqb, cases_Bool, both_ways, cases_lt, lt-ltb}
 use Rattle.network.specs.Offers.{first_of, slots_from}
 use Rattle.network.specs.Sheets.{In, has, slots}
-use Rattle.network.proofs.Members.{false_unless, in_counting, in_kept, of_counting, of_kept}
+use Rattle.network.proofs.Members.{all_from, false_unless, in_counting, in_kept, of_counting, of_kept}
 use Rattle.network.proofs.Masks.{has_next, has_none}
 
 pub slots_start : (m : ℕ) → slots m ≡ slots_from m 0
@@ -138,3 +138,6 @@ first_past m a e s l k = false_unless (has m s) (λ i. subst (In s) (first_none 
 -- the slots from one on begin with the first, and go on past it
 pub first_and_rest : (m a t : ℕ) → a ≤ 32 → Some t ≡ first_of (slots_from m a) → (t < 32) × (slots_from m a ≡ t ∷ slots_from m (t + 1))
 first_and_rest m a t h e = let f = first_here m a t h (sym e) in (f.1, f.3 ∙ ap (λ n. t ∷ slots_from m n) (sym (add-one t)))
+
+pub slots_below : (m : ℕ) → list_all (λ s. ltb s 32) (slots m) ≡ true
+slots_below m = all_from (λ s. ltb s 32) (slots m) (λ s i. lt-ltb s 32 (of_from m 0 s (subst (In s) (slots_start m) i)).1)

@@ -1,19 +1,9 @@
-use Rattle.std.proofs.Common.{◌≡◌, ◌-◌, true, false, eqb, ltb, take, subst, inl, inr, arith}
+use Rattle.std.proofs.Common.{◌≡◌, ◌-◌, true, false, eqb, ltb, take, subst, arith}
 use Rattle.std.specs.List.{list_all}
 use Rattle.network.specs.Sheets.{is_distinct}
 use Rattle.card.specs.Lists.{Listed}
-use Rattle.card.proofs.Checking.{scope_few, scope_good, scope_many, scope_out, scope_twice}
+use Rattle.card.proofs.Checking.{scope_good, scope_out, scope_twice}
 use Rattle.card.proofs.checks.scope_in.Goals as goal
-
-pub returns-then-list-lt-MIN_ARITY : goal.returns-then-list-lt-MIN_ARITY
-returns-then-list-lt-MIN_ARITY c =
-    let bs = c.args.value.now in
-    let l = c.in_ok-list.list in
-    let read = subst (Listed c.args.value.now) c.in_ok-list.ensures.ok_part c.read.ensures in
-    elim c.then-list-lt-MIN_ARITY.either [
-      | inl few ↦ scope_few bs l read.1 c.args.blocks (omega arith) read.0 few
-      | inr many ↦ scope_many bs l read.1 c.args.blocks (omega arith) read.0 many.1
-    ]
 
 pub returns-then-not-all_below : goal.returns-then-not-all_below
 returns-then-not-all_below c =

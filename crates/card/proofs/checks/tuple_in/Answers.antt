@@ -2,13 +2,8 @@ use Rattle.std.proofs.Common.{◌≡◌, ◌-◌, true, false, ltb, take, subst,
 use Rattle.std.specs.List.{list_all}
 use Rattle.network.specs.Tree.{precedes}
 use Rattle.card.specs.Lists.{Listed}
-use Rattle.card.proofs.Checking.{tuple_good, tuple_late, tuple_other, tuple_out}
+use Rattle.card.proofs.Checking.{tuple_good, tuple_late, tuple_out}
 use Rattle.card.proofs.checks.tuple_in.Goals as goal
-
-pub returns-then-list-arity : goal.returns-then-list-arity
-returns-then-list-arity c =
-    let read = subst (Listed c.args.value.now) c.in_ok-list.ensures.ok_part c.read.ensures in
-    tuple_other c.args.value.now c.in_ok-list.list read.1 c.args.arity c.args.last.now c.if-list-arity.true
 
 pub returns-then-not-all_below : goal.returns-then-not-all_below
 returns-then-not-all_below c =

@@ -6,9 +6,6 @@ use Rattle.banks.specs.TablesHold.{table_accepted}
 use Rattle.banks.proofs.Tupled.{part_cut}
 use Rattle.banks.proofs.table.TableRecordRecord.allows_some.Goals as goal
 
-pub part-requires : goal.part-requires
-part-requires c = (table_accepted c.args.cells.now c.args.self.now c.requires.accepted).there
-
 pub invariant_of-search : goal.invariant_of-search
 invariant_of-search c =
     let r = c.args.self.now in

@@ -1,18 +1,10 @@
 use Rattle.std.proofs.Common.{◌≡◌, true, ◌&&◌, ltb, get_or, sym, refl, arith}
 use mathlib.Core.Logic.{∥∥₁_map}
-use Rattle.std.proofs.lemmas.Bool.{and_from, and_parts, and_right, lt-ltb, ltb-true}
+use Rattle.std.proofs.lemmas.Bool.{and_from, and_parts, lt-ltb, ltb-true}
 use Rattle.network.specs.Sheets.{has}
-use Rattle.listing.proofs.Pinning.{pin_accepted, pin_outside, pin_twice, pinnable}
+use Rattle.listing.proofs.Pinning.{pin_accepted, pin_twice, pinnable}
 use Rattle.listing.proofs.Records.{no_record, pinned_lawful, pinned_size}
 use Rattle.listing.proofs.listing.Listing.pin.Goals as goal
-
-pub returns-then-not-has_slot-clause-step : goal.returns-then-not-has_slot-clause-step
-returns-then-not-has_slot-clause-step c =
-    let s = c.args.self.now in
-    let b = c.args.block in
-    let k = c.args.slot in
-    let m = has (get_or s.records b no_record).opened k in
-    pin_outside s b k (and_right (ltb b s.blocks) (ltb k 32 && m) (sym c.if-not-has_slot.ensures))
 
 pub returns-then-is_some-clause-step : goal.returns-then-is_some-clause-step
 returns-then-is_some-clause-step c =

@@ -12,11 +12,6 @@ use Rattle.network.proofs.row.Row.decide.Goals as goal
 offered : (r : CodeRow) (s : ℕ) → true ≡ (ltb s 32 && has (next_mask (model r)) s) → (s < 32) × (has (next_mask (model r)) s ≡ true)
 offered r s e = let a = and_parts (ltb s 32) (has (next_mask (model r)) s) (sym e) in (ltb-true s 32 a.0, a.1)
 
-pub bounds-self-self : goal.bounds-self-self
-bounds-self-self c =
-    let r = c.args.self.now in
-    omega (arith, next_there r c.args.slot (offered r c.args.slot c.if-not-offers.ensures).1, r.few)
-
 pub invariant_of-self : goal.invariant_of-self
 invariant_of-self c =
     let r = c.args.self.now in
