@@ -1,28 +1,20 @@
 -- The sheets of a list of accepted records, by number.
 use Rattle.std.specs.Prelude.{nat_lt}
-use Rattle.std.proofs.Common.{◌≡◌, ℕ, zero, suc, ◌<◌, ◌≤◌, true, List, [], ◌∷◌, map, length, get_or, refl, sym, ap, ◌∙◌, subst, arith}
-use Rattle.std.proofs.lemmas.List.{length-map}
+use Rattle.std.proofs.Common.{◌≡◌, ℕ, ◌<◌, ◌≤◌, true, List, map, length, get_or, sym, ap, ◌∙◌, subst}
 use Rattle.network.specs.Sheets.{Sheet, sheet_at}
 use Rattle.network.specs.Laws.{LawfulSheet}
 use Rattle.network.specs.declared.refusal.Refusal.TheVariants.{LimitExceeded}
-use Rattle.network.proofs.Members.{in_at, sheet_past}
+use Rattle.network.proofs.Members.{in_at}
 use Rattle.banks.specs.Verdicts.{Verdict, accepts, on_first, on_records}
 use Rattle.banks.specs.Accepted.{each_accepted, passed}
-
-pub sheet_missed : {A : Type 0} (sheet : A → Sheet) (xs : List A) (c : ℕ) → length xs ≤ c → sheet_at (map sheet xs) c ≡ sheet_at [] c
-sheet_missed sheet xs c l = sheet_past (map sheet xs) c (omega (arith, length-map xs sheet))
-
-at : {A : Type 0} (sheet : A → Sheet) (xs : List A) (c : ℕ) (d : A) → c < length xs → sheet_at (map sheet xs) c ≡ sheet (get_or xs c d)
-at sheet [] c d l = absurd (omega arith)
-at sheet (x ∷ xs) zero d l = refl
-at sheet (x ∷ xs) (suc c) d l = at sheet xs c d (omega arith)
+use Rattle.banks.specs.SheetAt.{sheet_map}
 
 -- what holds of the record of a number
 module _ {A : Type 0} (verdict : A → Verdict) (sheet : A → Sheet) (scope : A → List ℕ) (same : (r : A) → (sheet r).scope ≡ scope r)
     (each : (r : A) → accepts (verdict r) ≡ true → LawfulSheet (sheet r)) (xs : List A) (ok : accepts (on_records verdict xs) ≡ true)
     (c : ℕ) (x : A) (l : c < length xs) (e : x ≡ get_or xs c x) where
   pub sheet_got : sheet_at (map sheet xs) c ≡ sheet x
-  sheet_got = at sheet xs c x l ∙ ap sheet (sym e)
+  sheet_got = sheet_map sheet xs c x l ∙ ap sheet (sym e)
 
   pub scope_got : (sheet_at (map sheet xs) c).scope ≡ scope x
   scope_got = ap (λ (sh : Sheet). sh.scope) sheet_got ∙ same x

@@ -1,6 +1,7 @@
 -- The sheet of a number in a bank that is made of others.
-use Rattle.std.specs.Prelude.{◌≡◌, ℕ, zero, suc, ◌+◌, ◌-◌, ◌^◌, ◌<◌, ◌≤◌, false, cond, ◌&&◌, List, [], ◌∷◌, ◌++◌, length, take, nat_lt, slice_set, refl}
+use Rattle.std.specs.Prelude.{◌≡◌, ℕ, zero, suc, ◌+◌, ◌-◌, ◌^◌, ◌<◌, ◌≤◌, false, cond, ◌&&◌, List, [], ◌∷◌, ◌++◌, map, length, take, nat_lt, slice_index_or, slice_set, refl}
 use Rattle.std.proofs.Common.{arith, inl, inr, ◌∙◌, ap, subst, sym, length-append, length-take}
+use Rattle.std.proofs.lemmas.List.{length-map}
 use Rattle.std.proofs.lemmas.Bool.{and_left, cases_lt, cond-false, cond-true, le-ltb, lt-ltb}
 use Rattle.network.specs.Sheets.{Sheet, choices, sheet_at, some_pass, supported}
 use Rattle.network.specs.Laws.{LawfulBank, LawfulSheet}
@@ -68,3 +69,12 @@ sheet_placed m n c p e = go ∙ ap (sheet_from m n) (sym e)
       where
         placed_in : c < 1024 → place_of (length m) c ≡ cond (nat_lt c (length m)) (First c) (Second (c - length m))
         placed_in l = cond-true (nat_lt c 1024) (cond (nat_lt c (length m)) (First c) (Second (c - length m))) Nowhere (lt-ltb c 1024 l)
+
+-- the sheets of records, by number
+pub sheet_map : {A : Type 0} (f : A → Sheet) (xs : List A) (c : ℕ) (d : A) → c < length xs → sheet_at (map f xs) c ≡ f (slice_index_or xs c d)
+sheet_map f [] c d l = absurd (omega arith)
+sheet_map f (x ∷ xs) zero d l = refl
+sheet_map f (x ∷ xs) (suc c) d l = sheet_map f xs c d (omega arith)
+
+pub sheet_map_past : {A : Type 0} (f : A → Sheet) (xs : List A) (c : ℕ) → length xs ≤ c → sheet_at (map f xs) c ≡ sheet_at [] c
+sheet_map_past f xs c l = sheet_past (map f xs) c (omega (arith, length-map xs f))

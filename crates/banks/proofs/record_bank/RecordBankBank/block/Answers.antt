@@ -1,6 +1,7 @@
 use Rattle.std.proofs.Common.{◌≡◌, get_or, sym, ap, ◌∙◌, rules}
 use Rattle.network.specs.Sheets.{Sheet}
-use Rattle.banks.proofs.Recorded.{scope_few, scope_got, sheet_missed}
+use Rattle.banks.proofs.Recorded.{scope_few, scope_got}
+use Rattle.banks.specs.SheetAt.{sheet_map_past}
 use Rattle.banks.proofs.record_bank.RecordBankBank.block.Goals as goal
 
 pub scope-requires : goal.scope-requires
@@ -21,4 +22,4 @@ returns-in-Some g c =
 pub returns-in-None : goal.returns-in-None
 returns-in-None g c =
     let b = c.args.self.now in
-    ap (λ (sh : Sheet). get_or sh.scope c.args.p 255) (sym (sheet_missed (g.R.Record.sheet b.cells.now) b.records.now c.args.c c.in-None.ensures.lookup.3))
+    ap (λ (sh : Sheet). get_or sh.scope c.args.p 255) (sym (sheet_map_past (g.R.Record.sheet b.cells.now) b.records.now c.args.c c.in-None.ensures.lookup.3))

@@ -6,7 +6,8 @@ use Rattle.network.proofs.Supports.{bank_decides}
 use Rattle.banks.specs.Accepted.{records_lawful}
 use Rattle.banks.specs.Rules.{Alone}
 use Rattle.banks.specs.SheetAt.{unsupported}
-use Rattle.banks.proofs.Recorded.{accepted_got, scope_few, scope_got, sheet_got, sheet_missed}
+use Rattle.banks.proofs.Recorded.{accepted_got, scope_few, scope_got, sheet_got}
+use Rattle.banks.specs.SheetAt.{sheet_map_past}
 use Rattle.banks.proofs.Seeking.{no_slot, supported_is, tried_alone}
 use Rattle.banks.proofs.record_bank.RecordBankBank.supports.Goals as goal
 
@@ -16,7 +17,7 @@ returns-in_default g c =
     let b = c.args.self.now in
     let ms = c.args.masks.now in
     let e : false ≡ supported (sheet_at (map (R.sheet b.cells.now) b.records.now) c.args.c) ms c.args.p c.args.s =
-    sym (ap (λ (sh : Sheet). supported sh ms c.args.p c.args.s) (sheet_missed (R.sheet b.cells.now) b.records.now c.args.c c.in_default.ensures.lookup.3)
+    sym (ap (λ (sh : Sheet). supported sh ms c.args.p c.args.s) (sheet_map_past (R.sheet b.cells.now) b.records.now c.args.c c.in_default.ensures.lookup.3)
     ∙ unsupported (sheet_at [] c.args.c) ms c.args.p c.args.s (omega arith)) in
     record {
       test = e;
