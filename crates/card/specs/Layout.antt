@@ -4,6 +4,7 @@ use Rattle.std.specs.List.{flat_map}
 use Rattle.banks.specs.declared.table.Kind.{Kind}
 use Rattle.banks.specs.declared.table.TableRecord.{TableRecord}
 use Rattle.banks.specs.declared.rule.RuleRecord.{RuleRecord}
+use Rattle.card.specs.declared.places.Places.{Places}
 use Rattle.card.specs.declared.sizes.Sizes.{Sizes}
 use Rattle.card.specs.Lists.{packed}
 use Rattle.card.specs.Spelling.{Network, RuleSheet, Table}
@@ -16,6 +17,9 @@ pub record Memory : Type 0 where
 
 abbrev pub memory : List ℕ → List TableRecord → List ℕ → List RuleRecord → Memory
 memory masks tables cells rules = record { masks = masks; tables = tables; cells = cells; rules = rules }
+
+abbrev pub memory_in : Places → Memory
+memory_in p = memory p.masks.now p.tables.now p.cells.now p.rules.now
 
 abbrev pub sizes_of : Memory → Sizes
 sizes_of m = record { masks = length m.masks; tables = length m.tables; cells = length m.cells; rules = length m.rules }

@@ -9,6 +9,7 @@ mod line;
 mod list;
 mod number;
 mod place;
+mod places;
 mod put;
 mod read;
 mod reader;

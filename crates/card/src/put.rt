@@ -1,34 +1,29 @@
 // What a line adds, written into memory.
 ghost use Rattle.card.specs.Filling.{FitEntry, HasRoom, added};
-ghost use Rattle.card.specs.Layout.{Memory, memory, over, sizes_of};
+ghost use Rattle.card.specs.Layout.{Memory, memory_in, over, sizes_of};
 ghost use Rattle.std.specs.Prelude.{◌≡◌};
 
 use crate::entry::Entry;
+use crate::places::Places;
 use crate::sizes::Sizes;
 use banks::rule::RuleRecord;
 use banks::table::TableRecord;
 
 impl Entry {
     // Writes the entry where what is filled so far ends.
-    pub(crate) fn put(
-        self,
-        filled: Sizes,
-        masks: &mut [u32],
-        tables: &mut [TableRecord],
-        cells: &mut [u8],
-        rules: &mut [RuleRecord],
-    )
+    pub(crate) fn put(self, filled: Sizes, places: &mut Places)
         requires fit { FitEntry self }
-        requires room { HasRoom self filled (sizes_of (memory masks.old tables.old cells.old rules.old)) }
-        ensures { (m old : Memory) → filled ≡ sizes_of m → memory masks.old tables.old cells.old rules.old ≡ over m old →
-            memory masks.new tables.new cells.new rules.new ≡ over (added self m) old }
+        requires room { HasRoom self filled (sizes_of (memory_in places.old)) }
+        ensures written { (m old : Memory) → filled ≡ sizes_of m → memory_in places.old ≡ over m old →
+            memory_in places.new ≡ over (added self m) old }
+        ensures sizes { sizes_of (memory_in places.new) ≡ sizes_of (memory_in places.old) }
     {
         match self {
             Entry::Nothing => {}
-            Entry::Mask(mask) => masks[filled.masks] = mask,
+            Entry::Mask(mask) => places.masks[filled.masks] = mask,
             Entry::Table(kind, scope, tuples) => {
                 let blocks = scope.numbers;
-                tables[filled.tables] = TableRecord {
+                places.tables[filled.tables] = TableRecord {
                     kind,
                     arity: scope.count as u8,
                     blocks,
@@ -38,11 +33,11 @@ impl Entry {
             }
             Entry::Tuple(tuple) => {
                 let (first, count) = (filled.cells, tuple.count);
-                cells[first..first + count].copy_from_slice(&tuple.numbers[0..count]);
+                places.cells[first..first + count].copy_from_slice(&tuple.numbers[0..count]);
             }
             Entry::Rule(rule, scope) => {
                 let blocks = scope.numbers;
-                rules[filled.rules] = RuleRecord {
+                places.rules[filled.rules] = RuleRecord {
                     rule,
                     arity: scope.count as u8,
                     blocks,

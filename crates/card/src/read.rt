@@ -1,15 +1,14 @@
 // A card read into memory.
-ghost use Rattle.card.specs.Layout.{layout, memory, over, sizes_of};
+ghost use Rattle.card.specs.Layout.{layout, memory_in, over, sizes_of};
 ghost use Rattle.card.specs.Reads.{answer_for, fits, judgement, memory_after};
 ghost use Rattle.card.specs.Spelling.{Network};
 ghost use Rattle.card.specs.Verdict.{spelled, verdict};
 ghost use Rattle.std.specs.Prelude.{◌≡◌, ◌≤◌, true, length};
 
+use crate::places::Places;
 use crate::reader::Reader;
 use crate::refusal::CardRefusal;
 use crate::sizes::Sizes;
-use banks::rule::RuleRecord;
-use banks::table::TableRecord;
 use network::refusal::Refusal;
 
 const MAX_BYTES: usize = 32768;
@@ -33,23 +32,17 @@ fn judge(card: &[u8]) -> Result<Sizes, CardRefusal>
 }
 
 // Writes the network that a good card spells, where there is room for it.
-fn fill(
-    card: &[u8],
-    masks: &mut [u32],
-    tables: &mut [TableRecord],
-    cells: &mut [u8],
-    rules: &mut [RuleRecord],
-)
+fn fill(card: &[u8], places: &mut Places)
     requires short { length card.now ≤ 32768 }
-    requires room { (x : Network) × (verdict card.now ≡ spelled x) × (fits (sizes_of (layout x)) (sizes_of (memory masks.old tables.old cells.old rules.old)) ≡ true) }
+    requires room { (x : Network) × (verdict card.now ≡ spelled x) × (fits (sizes_of (layout x)) (sizes_of (memory_in places.old)) ≡ true) }
     ensures { (x : Network) → verdict card.now ≡ spelled x →
-        memory masks.new tables.new cells.new rules.new
-        ≡ over (layout x) (memory masks.old tables.old cells.old rules.old) }
+        memory_in places.new
+        ≡ over (layout x) (memory_in places.old) }
 {
     let mut reader = Reader::new(card);
     let mut filled = Sizes::default();
     while let Ok(Some(entry)) = reader.next_entry() {
-        entry.put(filled, masks, tables, cells, rules);
+        entry.put(filled, places);
         filled = filled.with(entry);
     }
 }
