@@ -6,7 +6,7 @@ ghost use Rattle.std.specs.List.{list_all, list_any};
 
 use network::mask::{has_slot, single, slots_of};
 
-// Whether each mask has a slot.
+// Whether each mask has a slot. This test and the next stand alone: inside their caller the chains left goals that did not close.
 fn all_filled(masks: &[u32]) -> bool
     ensures { result ≡ list_all (λ m. not (m == 0)) masks.now }
 {

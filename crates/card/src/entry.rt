@@ -1,4 +1,4 @@
-// What a line adds to the network.
+// What a line adds to the network. Nothing is one of the cases: an Option would stand inside the Option that tells where a card ends.
 use crate::list::NumberList;
 use crate::stage::Stage;
 use banks::rule::Rule;

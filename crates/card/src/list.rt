@@ -9,7 +9,7 @@ use crate::place::place_of;
 // Stands for a number that isn't there, and for every number from here on.
 const NONE: u8 = 255;
 
-// How many numbers there are, and the first six of them.
+// How many numbers there are, and the first six of them: a card's list may be longer than any scope, and nothing is kept on a heap.
 #[derive(Clone, Copy)]
 pub struct NumberList {
     pub count: usize,

@@ -9,7 +9,8 @@ use crate::list::NumberList;
 use banks::rule::Rule;
 use banks::table::Kind;
 
-// The line that is due, with the number of those that come after it.
+// The line that is due, with the number of those that come after it. After the last line nothing is due: that is a stage like the
+// others, and an Option around them would have every test of a stage name one constructor more.
 #[derive(Clone, Copy)]
 pub enum Expected {
     Blocks,

@@ -1,4 +1,4 @@
-// The words that a value may be.
+// The words that a value may be. One generic function over a table of words and their meanings was tried: its proof did not close.
 ghost use Rattle.card.specs.Verdict.{same_bytes};
 ghost use Rattle.card.specs.Words.{kind_read, net_read, rule_read};
 ghost use Rattle.std.specs.Prelude.{◌≡◌};

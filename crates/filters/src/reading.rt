@@ -37,6 +37,7 @@ impl Reading {
         ensures { take (length (sheet_at (B.Bank.meaning bank.now) c).scope) result ≡ map (mask_by self (model row.now)) (sheet_at (B.Bank.meaning bank.now) c).scope }
     {
         let mut masks = [0; 6];
+        // By number: a bank is asked by position, and has no slice of blocks to go over.
         for p in 0..bank.arity(c) {
             masks[p] = self.mask(row, bank.block(c, p) as usize);
         }

@@ -12,6 +12,7 @@ fn masks_of<B: Bank>(bank: &B, c: usize, opened: &[u32]) -> [u32; 6]
     ensures { (p : ℕ) → p < 6 → slice_index result p ≡ slice_index opened.now (slice_index_or (sheet_at (B.Bank.meaning bank.now) c).scope p 255) }
 {
     let mut masks = [0; 6];
+    // By number: a bank is asked by position. With `array::from_fn` the proof did not learn what the closure answered.
     for p in 0..masks.len() {
         masks[p] = opened.get(bank.block(c, p) as usize).copied().unwrap_or(0);
     }
