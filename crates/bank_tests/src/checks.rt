@@ -153,6 +153,7 @@ const TABLE: TableRecord = TableRecord {
 // The first 4,097 tuples of three slots, ascending.
 fn ascending() -> [u8; 12291] {
     let mut cells = [0u8; 12291];
+    // By number: three cells are made of each.
     for i in 0..4097 {
         cells[3 * i] = (i / 1024) as u8;
         cells[3 * i + 1] = (i / 32 % 32) as u8;

@@ -18,7 +18,8 @@ pub enum Kind {
     Deny,
 }
 
-// A sheet that lists tuples. They stand in the cells from `first` on, one after the other.
+// A sheet that lists tuples. They stand in the cells from `first` on, one after the other. A record is a format of memory: an arity
+// beside six block numbers, and the place of its first cell as a number.
 #[derive(Clone, Copy)]
 pub struct TableRecord {
     pub kind: Kind,

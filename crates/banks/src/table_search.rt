@@ -28,7 +28,7 @@ impl<'a> Search<'a> {
         }
     }
 
-    // The number of the first tuple inside the masks.
+    // The number of the first tuple inside the masks. By two loops and labels, as is the rule here (docs/DECISIONS.md, Forms).
     fn first_inside(&self) -> Option<usize>
         ensures some { let ms = self.now.masks.now in is_some result ≡ some_pass (inside ms) (cut (length ms) self.now.cells.now) }
         ensures first { let ms = self.now.masks.now in IfSome result (λ i. FirstPass (inside ms) (cut (length ms) self.now.cells.now) i) }

@@ -50,7 +50,6 @@ pub(crate) fn scope_in(value: &[u8], blocks: usize) -> Result<NumberList, Refusa
 }
 
 // Whether the first list comes before the second, by the first place where they differ.
-
 #[tactic(auto, using(banks::proofs::Less::less_is))]
 fn comes_before(a: &[u8], b: &[u8]) -> bool
     ensures { result ≡ precedes a.now b.now }

@@ -20,7 +20,7 @@ pub enum Line<'a> {
 }
 
 impl<'a> Line<'a> {
-    // The line with that key, if there is one.
+    // The line with that key, if there is one. Word after word, for the reason at `is_word`.
     #[tactic(auto, using(crate::proofs::Texts::is_same))]
     fn keyed(key: &[u8], value: &'a [u8]) -> Option<Line<'a>>
         ensures { Keyed key.now value.now result }

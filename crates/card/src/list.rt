@@ -6,7 +6,7 @@ ghost use Rattle.card.specs.Parts.{capped};
 use crate::number::number;
 use crate::place::place_of;
 
-// Stands for a number that isn't there, and for every number from here on.
+// Stands for a number that isn't there, and for every number from here on: a record has bytes, and 255 is out of every range.
 const NONE: u8 = 255;
 
 // How many numbers there are, and the first six of them: a card's list may be longer than any scope, and nothing is kept on a heap.

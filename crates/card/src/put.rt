@@ -10,7 +10,7 @@ use banks::rule::RuleRecord;
 use banks::table::TableRecord;
 
 impl Entry {
-    // Writes the entry where what is filled so far ends.
+    // Writes the entry where what is filled so far ends: places are lent by the caller, and how far they are filled is the reader's.
     pub(crate) fn put(self, filled: Sizes, places: &mut Places)
         requires fit { FitEntry self }
         requires room { HasRoom self filled (sizes_of (memory_in places.old)) }

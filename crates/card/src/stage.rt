@@ -35,6 +35,7 @@ pub struct Stage {
     pub tuples: usize,
 }
 
+// The counts of lines that are left go down alike, to two stages each: one generic call would take both and be no shorter.
 impl Expected {
     pub(crate) fn open_or_sheets(more: usize) -> Expected
         ensures { result ≡ expected_of (open_or_sheets more) }

@@ -14,17 +14,19 @@ use crate::word::{kind_in, net_in, rule_in};
 use banks::rule::Rule;
 use banks::table::Kind;
 use network::refusal::Refusal;
-
-const MAX_BLOCKS: usize = 32;
+use network::row::BLOCKS;
 
 const MAX_MASK: usize = 4294967295;
 
 const MAX_TABLES: usize = 32;
 
+// Of all tables of a card together.
 const MAX_TUPLES: usize = 4096;
 
 const MAX_RULES: usize = 192;
 
+// One call for each line that may be due: they differ in the reader of the value, its limits and what is due next. Each says what it
+// answers where the stage is that of a reading: a reading is no part of a stage, so that cannot be an invariant.
 impl Stage {
     // The same blocks and tuples, with another line due.
     fn then(self, next: Expected, entry: Entry) -> Step
@@ -39,7 +41,7 @@ impl Stage {
     pub(crate) fn after_blocks(value: &[u8]) -> Result<Step, Refusal>
         ensures { (q : Reading) → result ≡ answered q blocks_due (codes "blocks") value.now }
     {
-        let blocks = number_in(value, 1, MAX_BLOCKS)?;
+        let blocks = number_in(value, 1, BLOCKS)?;
         let stage = Stage {
             next: Expected::open_or_sheets(blocks),
             blocks,

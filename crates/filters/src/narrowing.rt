@@ -34,6 +34,7 @@ pub(crate) fn narrow<B: Bank>(bank: &B, c: usize, reading: Reading, row: &mut Ro
 {
     let masks = reading.masks(bank, c, row);
     let mut effect = Effect::Unchanged;
+    // By number, as a bank is asked.
     for p in 0..bank.arity(c) {
         let block = bank.block(c, p) as usize;
         if block < row.decided() {

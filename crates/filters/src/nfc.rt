@@ -80,7 +80,8 @@ impl Filter for Nfc {
 
     ghost lawful = { filter_law };
 
-    // A row with no block decided, and a dead row, stay as they are.
+    // A row with no block decided, and a dead row, stay as they are. The set and the reading are values that definitions speak of;
+    // as closures they would be two type parameters with clauses of their own.
     fn apply<B: Bank>(&mut self, bank: &B, row: &mut Row)
         ensures row { model row.new ≡ filter_of self.old (B.Bank.meaning bank.now) (model row.old) }
         ensures meaning { filter_of self.new ≡ filter_of self.old }

@@ -19,6 +19,7 @@ pub fn pass<B: Bank>(set: SheetSet, reading: Reading, bank: &B, row: &mut Row) -
     ensures told { Told result (model row.old) (model row.new) }
 {
     let mut effect = Effect::Unchanged;
+    // By number, as a bank is asked.
     for c in 0..bank.count() {
         if !set.picks(bank, c, row) {
             continue;

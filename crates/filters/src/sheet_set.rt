@@ -25,6 +25,7 @@ impl SheetSet {
         let mut current = false;
         let mut past = false;
         let mut future: usize = 0;
+        // By number, as a bank is asked.
         for p in 0..bank.arity(c) {
             let block = bank.block(c, p) as usize;
             if block >= row.blocks() {

@@ -12,7 +12,8 @@ mod pinned;
 mod root;
 mod walks;
 
-// The first `blocks` records count, and the path's first `depth` slots: there is no heap, so both are arrays with their count beside them.
+// The first `blocks` records count, and the path's first `depth` slots: there is no heap and a
+// listing is `Copy`, so both are arrays with their count beside them.
 #[derive(Clone, Copy)]
 pub struct Listing {
     pub blocks: usize,

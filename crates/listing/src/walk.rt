@@ -18,7 +18,7 @@ pub struct Child {
 }
 
 // Row k has the path's first k slots decided, for k up to `depth`. The walk goes on from slot `from` of the deepest row's next block.
-// There is no heap, so rows and path are arrays with their depth beside them.
+// There is no heap, so rows and path are arrays with their depth beside them; the path is copied from and to a listing.
 #[derive(Drop)]
 pub struct Walk {
     pub rows: [Row; ROWS],

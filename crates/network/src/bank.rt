@@ -3,7 +3,8 @@ ghost use Rattle.network.specs.Laws.{LawfulBank};
 ghost use Rattle.network.specs.Sheets.{Decides, HasSupport, Sheet, sheet_at, supported};
 ghost use Rattle.std.specs.Prelude.{◌≡◌, List, length, slice_index_or};
 
-// Answers for a sheet past the last one are those of a sheet with no blocks.
+// Answers for a sheet past the last one are those of a sheet with no blocks: plain numbers, 0 and 255, which are part of what a bank is.
+// Sheets are asked by number. A value of bank and number would be one type more, with the same questions.
 pub trait Bank {
     ghost meaning: { Self → List Sheet };
 

@@ -8,8 +8,8 @@ mod calls;
 // A row has at most so many blocks.
 pub const BLOCKS: usize = 32;
 
-// A row is a value of fixed size, so its masks stand in two arrays with their count, and it has no heap. It has no model of its own
-// (`impl Model`): proofs in other crates rest on its being lawful by type, which a model would hide from them.
+// A row is `Copy`, with no heap, so its masks stand in arrays with their count; in two, since they are read as two slices.
+// It has no model of its own (`impl Model`): proofs in other crates rest on its being lawful by type, which a model would hide.
 // The first `blocks` masks of both arrays count. Every row is lawful: its present masks lie inside its open masks, one empty
 // present mask empties all, and no decided block has two slots.
 #[derive(Clone, Copy)]

@@ -42,6 +42,7 @@ fn sheet<B: Bank>(rt: &HostRuntime, bank: &B, c: usize, opened: &[u32]) -> io::R
         .collect(rt.alloc())?;
     println!(rt; "scope={}", Commas(&scope))?;
     let masks = masks_of(bank, c, opened);
+    // By number, as a bank is asked.
     for p in 0..masks.len().min(bank.arity(c)) {
         position(rt, bank, c, &masks, p)?;
     }
@@ -50,6 +51,7 @@ fn sheet<B: Bank>(rt: &HostRuntime, bank: &B, c: usize, opened: &[u32]) -> io::R
 
 // Every sheet with its scope and, for each position, the slots that have a support under the open masks.
 pub(crate) fn show<B: Bank>(rt: &HostRuntime, bank: &B, opened: &[u32]) -> io::Result<()> {
+    // By number, as a bank is asked.
     for c in 0..bank.count() {
         sheet(rt, bank, c, opened)?;
     }

@@ -13,7 +13,7 @@ use network::bank::Bank;
 use network::refusal::Refusal;
 use network::row::BLOCKS;
 
-// Whether a session may have so many blocks.
+// Whether a session may have so many blocks: a range of one line, of another type and limit than that of budgets.
 fn is_block_count(blocks: usize) -> bool
     ensures { result ≡ not (blocks == 0 || nat_lt 32 blocks) }
 {

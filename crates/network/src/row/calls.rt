@@ -106,7 +106,7 @@ impl Row {
         self.decided == self.blocks
     }
 
-    // Whether the row is dead: one of its masks is empty.
+    // Whether the row is dead: one of its masks is empty. By a loop, as is the rule here (docs/DECISIONS.md, Forms).
     pub fn is_dead(&self) -> bool
         ensures { result ≡ dead (model self.now) }
     {
