@@ -15,7 +15,7 @@ pub const MAX_ARITY: u8 = 6;
 // Stands for a block that isn't there, as the trait of banks has it.
 pub const NO_BLOCK: u8 = 255;
 
-// Whether each number is below 32, as those of slots and blocks are. Crate card has the like for another limit: one line each.
+// Whether each number is below 32, as those of slots and blocks are. Crate card has the like with the limit as an argument: one line each.
 pub fn all_in_range(numbers: &[u8]) -> bool
     ensures { result ≡ list_all (λ x. nat_lt x 32) numbers.now }
 {

@@ -11,7 +11,8 @@ use crate::stage::{Expected, Stage};
 use network::refusal::Refusal;
 
 impl Stage {
-    // The step that the line makes, if it is the one that is due.
+    // The step that the line makes, if it is the one that is due. A match on two enums that definitions speak of: as a closure, what is
+    // due would be a type parameter with clauses of its own.
     pub(crate) fn step(self, line: Line) -> Result<Step, Refusal>
         requires { Fit self }
         ensures { (q : Reading) → SlotsOnly q.due → self ≡ stage_of q → result ≡ answered q q.due (key_of line.entry) (bytes_of line.entry) }

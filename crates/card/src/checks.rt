@@ -10,6 +10,7 @@ use banks::all_distinct;
 use network::mask::SLOTS;
 use network::refusal::Refusal;
 
+// The limits of a scope, which in a record are bytes: here they are compared with a count.
 const MIN_ARITY: usize = 2;
 
 const MAX_ARITY: usize = 6;

@@ -20,7 +20,7 @@ pub enum Line<'a> {
 }
 
 impl<'a> Line<'a> {
-    // The line with that key, if there is one. Word after word, for the reason at `is_word`.
+    // The line with that key, if there is one. Word after word, for the reasons in word.rt.
     #[tactic(auto, using(crate::proofs::Texts::is_same))]
     fn keyed(key: &[u8], value: &'a [u8]) -> Option<Line<'a>>
         ensures { Keyed key.now value.now result }
@@ -50,7 +50,7 @@ impl<'a> Line<'a> {
         }
     }
 
-    // The line that the bytes before a newline make.
+    // The line that the bytes before a newline make. By `let .. else`, as is the rule here, and so on with each part.
     pub(crate) fn read(bytes: &'a [u8]) -> Option<Line<'a>>
         ensures { ReadAs bytes.now result }
     {

@@ -10,7 +10,7 @@ use banks::rule::Rule;
 use banks::table::Kind;
 
 // The line that is due, with the number of those that come after it. After the last line nothing is due: that is a stage like the
-// others, and an Option around them would have every test of a stage name one constructor more.
+// others, and an Option around them would have every match on a stage name one constructor more. What a tuple needs to know stands in one case.
 #[derive(Clone, Copy)]
 pub enum Expected {
     Blocks,

@@ -26,7 +26,8 @@ const MAX_TUPLES: usize = 4096;
 const MAX_RULES: usize = 192;
 
 // One call for each line that may be due: they differ in the reader of the value, its limits and what is due next. Each says what it
-// answers where the stage is that of a reading: a reading is no part of a stage, so that cannot be an invariant.
+// answers where the stage is that of a reading: a reading is no part of a stage, so that cannot be an
+// invariant. Its limits, which `Fit` states, would as ghost fields have to be shown again of every stage that is made.
 impl Stage {
     // The same blocks and tuples, with another line due.
     fn then(self, next: Expected, entry: Entry) -> Step

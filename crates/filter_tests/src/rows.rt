@@ -1,4 +1,5 @@
 // Rows of the example network, and what each filter leaves of them, by an independent computation from the definitions.
+// Of the six masks the first `blocks` count: a constant list of cases has one type for all.
 #[derive(Clone, Copy)]
 pub struct Case {
     pub blocks: usize,

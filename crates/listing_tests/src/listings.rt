@@ -145,7 +145,8 @@ fn another_filter_at_every_position(rt: HostRuntime) -> Result<(), Fail> {
     Ok(())
 }
 
-// Pins of one block each, the nodes of each filter, and the plans that are left: none, the first or the second.
+// Pins of one block each, the nodes of each filter, and the plans that are left: none, the first or the second. By number, as
+// `Shown` counts plans: an Option of the plan would be turned back into that count.
 #[derive(Clone, Copy)]
 struct Pinned(u8, u8, [u32; 6], usize);
 

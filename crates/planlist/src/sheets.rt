@@ -5,7 +5,7 @@ ghost use Rattle.network.specs.Sheets.{sheet_at};
 use crate::commas::Commas;
 use network::bank::Bank;
 use network::mask::slots_of;
-use std::{array, io};
+use std::io;
 
 // The open masks of a sheet's blocks, in the order of its scope: empty for a block that isn't there.
 fn masks_of<B: Bank>(bank: &B, c: usize, opened: &[u32]) -> [u32; 6]

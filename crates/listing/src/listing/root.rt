@@ -8,7 +8,8 @@ use crate::listing::Listing;
 use network::row::{BLOCKS, Row};
 
 impl Listing {
-    // Each block at its open mask, or at its pin alone. One empty mask empties all. The masks are set by their numbers, as the records are.
+    // Each block at its open mask, or at its pin alone. One empty mask empties all. The masks are set by their numbers, for the reason
+    // in opened.rt.
     pub(super) fn root(&self) -> Row
         ensures { model result ≡ root (opened_of self.now) (pinned_of self.now) }
     {

@@ -22,7 +22,8 @@ fn is_budget(budget: u32) -> bool
 
 impl Session {
     // Visits the nodes of the filter's tree that come after the last one visited: up to the first that shows a plan, and no more than
-    // `budget` of them. A plan fills the front of `place`. Answers the outcome and the number of visits.
+    // `budget` of them. A plan fills the front of `place`. Answers the outcome and the number of visits, a pair, as is the
+    // rule here.
     pub fn next<B: Bank, F: Filter>(
         &mut self,
         bank: &B,
