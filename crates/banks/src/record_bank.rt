@@ -3,10 +3,11 @@ ghost use Rattle.banks.specs.Accepted.{records_lawful};
 ghost use Rattle.banks.specs.Verdicts.{accepts, on_records};
 ghost use Rattle.std.specs.Prelude.{◌≡◌, true, cond, [], map};
 
-use crate::record::{Record, check_records};
+use crate::record::Record;
 use crate::scope::NO_BLOCK;
 use network::bank::Bank;
 use network::mask::{SLOTS, single};
+use network::refusal::Refusal;
 
 #[derive(Drop)]
 pub struct RecordBank<'a, R: Record> {
@@ -16,11 +17,12 @@ pub struct RecordBank<'a, R: Record> {
 }
 
 impl<'a, R: Record> RecordBank<'a, R> {
-    // A bank with a sheet for each record, or with none where the check refuses them.
-    pub(crate) fn checked(records: &'a [R], cells: &'a [u8]) -> Self
+    // A bank with a sheet for each record, or with none where their check refuses them.
+    pub(crate) fn checked(records: &'a [R], cells: &'a [u8], check: Result<(), Refusal>) -> Self
+        requires { check ≡ on_records (R.verdict cells.now) records.now }
         ensures { map (R.sheet result.cells.now) result.records.now ≡ cond (accepts (on_records (R.verdict cells.now) records.now)) (map (R.sheet cells.now) records.now) [] }
     {
-        match check_records(records, cells) {
+        match check {
             Ok(()) => RecordBank { records, cells },
             Err(_) => RecordBank {
                 records: &[],

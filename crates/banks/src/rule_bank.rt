@@ -3,7 +3,7 @@ ghost use Rattle.banks.specs.Rules.{rule_sheet, rules_meaning};
 ghost use Rattle.std.specs.Prelude.{◌≡◌, map};
 
 use crate::record_bank::RecordBank;
-use crate::rule::RuleRecord;
+use crate::rule::{RuleRecord, check_rules};
 
 pub type RuleBank<'a> = RecordBank<'a, RuleRecord>;
 
@@ -12,6 +12,6 @@ impl<'a> RuleBank<'a> {
     pub fn new(records: &'a [RuleRecord]) -> Self
         ensures { map rule_sheet result.records.now ≡ rules_meaning records.now }
     {
-        RecordBank::checked(records, &[])
+        RecordBank::checked(records, &[], check_rules(records))
     }
 }
