@@ -1,5 +1,5 @@
 -- A card is judged line by line: where the reader stands, one line more, and the end.
-use Rattle.std.proofs.Common.{◌≡◌, ℕ, ◌+◌, ◌<◌, ◌≤◌, Bool, true, false, cond, ◌&&◌, eqb, ltb, List, ◌∷◌, length, take, drop, Some, None, Ok, Err, sym, refl, ap, ◌∙◌, subst, ap₂, inl, inr, append-nil, add-one, arith, lit≤, length-drop}
+use Rattle.std.proofs.Common.{Option, Result, drop-drop, ◌≡◌, ℕ, ◌+◌, ◌<◌, ◌≤◌, Bool, true, cond, ◌&&◌, eqb, ltb, List, ◌∷◌, length, take, drop, Some, None, Ok, Err, sym, refl, ap, ◌∙◌, subst, ap₂, inl, inr, append-nil, add-one, arith, lit≤, length-drop}
 use Rattle.std.specs.List.{flat_map}
 use Rattle.std.proofs.lemmas.Bool.{and_parts, cases_Bool, cond-false, cond-true, le-ltb}
 use Rattle.network.specs.declared.refusal.Refusal.TheVariants.{LimitExceeded, Malformed}
@@ -9,7 +9,7 @@ use Rattle.card.specs.declared.reader.Reader.{Reader}
 use Rattle.card.specs.declared.refusal.CardRefusal.{CardRefusal}
 use Rattle.card.specs.declared.stage.Stage.{Stage}
 use Rattle.card.specs.Judgement.{ends}
-use Rattle.card.specs.Filling.{added, At, FitEntry, ReadsOn, memory_at, memory_of, Ready}
+use Rattle.card.specs.Filling.{added, At, ended, FitEntry, ReadsOn, memory_at, memory_of, Ready}
 use Rattle.card.specs.Layout.{cells_of, layout, records_from}
 use Rattle.card.specs.Parts.{CutAt}
 use Rattle.card.specs.Spelling.{Network}
@@ -24,17 +24,18 @@ use Rattle.card.proofs.Keyed.{no_good}
 use Rattle.card.proofs.Solids.{solid_line}
 
 -- the reader before the first line
-module _ (card : List ℕ) (r : Reader) (short : length card ≤ 32768) (rest_is : r.rest.now ≡ card) (line_is : r.line ≡ 1) (stage_is : r.stage ≡ stage_of nothing_read) where
+module _ (card : List ℕ) (r : Reader) (short : length card ≤ 32768) (rest_is : r.rest.now ≡ card) (start_is : r.start ≡ 0) (line_is : r.line ≡ 1) (stage_is : r.stage ≡ stage_of nothing_read) where
   nothing_solid : Solid nothing_read
   nothing_solid = record { fit = record { blocks = lit≤ tt; tuples = lit≤ tt; next = tt }; slots = tt }
 
   pub first_ready : Ready r
-  first_ready = record { fit = subst Fit (sym stage_is) nothing_solid.fit; short = omega (arith, ap length rest_is) }
+  first_ready = record { fit = subst Fit (sym stage_is) nothing_solid.fit; short = omega (arith, ap length rest_is); near = omega (arith, ap length rest_is) }
 
   pub first_at : At card r nothing_read
   first_at = record {
     solid = nothing_solid;
     stage = stage_is;
+    place = rest_is ∙ ap (λ n. drop n card) (sym start_is);
     rest =
         cond-false (ltb 32768 (length card)) (fault LimitExceeded 0) (judge_lines nothing_read 1 (lines card).full (lines card).rest) (le-ltb 32768 (length card) short)
         ∙ ap₂ (λ k bs. judge_lines nothing_read k (lines bs).full (lines bs).rest) (sym line_is) (sym rest_is);
@@ -67,9 +68,9 @@ module _ (card : List ℕ) (r : Reader) (q : Reading) (stands : At card r q) (i 
   first_line : verdict card ≡ judge_lines q r.line (l ∷ after.full) after.rest
   first_line = stands.rest ∙ ap (λ (ls : Lines). judge_lines q r.line ls.full ls.rest) (lines_at r.rest.now i here)
 
-  pub one_line : (step : Step) (s : Reader) → Ready r → Ok step ≡ at_line r.line (line_answered q l) → s.stage ≡ step.stage → s.line ≡ r.line + 1 → s.rest.now ≡ drop (i + 1) r.rest.now →
+  pub one_line : (step : Step) (s : Reader) → Ready r → Ok step ≡ at_line r.line (line_answered q l) → s.stage ≡ step.stage → s.line ≡ r.line + 1 → s.rest.now ≡ drop (i + 1) r.rest.now → s.start ≡ r.start + (i + 1) →
       ReadsOn card r q s (Ok (Some step.entry))
-  one_line step s ready steps stage_is line_is rest_is =
+  one_line step s ready steps stage_is line_is rest_is start_is =
       let (p, e, is) = good_answer r.line (judge_line q l) x step steps in
       let adds = line_adds q p (cut 61 l).front (cut 61 l).back stands.solid (line_parts q p l e) in
       let solid = solid_line q p l stands.solid e in
@@ -78,7 +79,7 @@ module _ (card : List ℕ) (r : Reader) (q : Reading) (stands : At card r q) (i 
       let less : length s.rest.now < length r.rest.now = omega (arith, here.0, ap length rest_is, length-drop (i + 1) r.rest.now) in (
         subst FitEntry (sym entry_is) adds.fit,
         record {
-          ready = record { fit = subst Fit (sym stage) solid.fit; short = omega (arith, ready.short, here.0, ap length rest_is, length-drop (i + 1) r.rest.now) };
+          ready = record { fit = subst Fit (sym stage) solid.fit; short = omega (arith, ready.short, here.0, ap length rest_is, length-drop (i + 1) r.rest.now); near = omega (arith, ready.near, here.0, ap length rest_is, length-drop (i + 1) r.rest.now) };
           line = line_is;
           less = less;
         },
@@ -87,6 +88,7 @@ module _ (card : List ℕ) (r : Reader) (q : Reading) (stands : At card r q) (i 
           record {
             solid = solid;
             stage = stage;
+            place = rest_is ∙ ap (drop (i + 1)) stands.place ∙ drop-drop (i + 1) r.start card ∙ ap (λ n. drop n card) (omega (arith, start_is));
             rest =
                 first_line ∙ next_line q r.line l after.full after.rest p e
                 ∙ ap₂ (λ k bs. judge_lines p k (lines bs).full (lines bs).rest) (sym (line_is ∙ add-one r.line)) (sym rest_is);
@@ -125,11 +127,14 @@ module _ (card : List ℕ) (r : Reader) (q : Reading) (stands : At card r q) (wh
       stands.rest ∙ ap (λ (ls : Lines). judge_lines q r.line ls.full ls.rest) (lines_whole r.rest.now whole) ∙ finished q.due r.line r.rest.now q.net
       ∙ ap (λ (t : Stage). cond (ends t.next && eqb (length r.rest.now) 0) (spelled q.net) (fault Malformed r.line)) (sym stands.stage)
 
-  pub good_end : over ≡ true → (verdict card ≡ spelled q.net) × (memory_of q ≡ layout q.net)
+  good_end : over ≡ true → (verdict card ≡ spelled q.net) × (memory_of q ≡ layout q.net)
   good_end e = (
     at_end ∙ cond-true _ _ _ e,
     laid_out q.due q.net (ap (λ (t : Stage). ends t.next) (sym stands.stage) ∙ (and_parts (ends r.stage.next) (eqb (length r.rest.now) 0) e).0),
   )
 
-  pub bad_end : over ≡ false → verdict card ≡ fault Malformed r.line
-  bad_end e = at_end ∙ cond-false _ _ _ e
+  pub ends_card : (o : Result (Option Entry) CardRefusal) → o ≡ ended r → ReadsOn card r q r o
+  ends_card o is = elim (cases_Bool over) [
+    | inl e ↦ subst (ReadsOn card r q r) (sym (is ∙ cond-true _ _ _ e)) (good_end e)
+    | inr e ↦ subst (ReadsOn card r q r) (sym (is ∙ cond-false _ _ _ e)) (at_end ∙ cond-false _ _ _ e)
+  ]

@@ -19,6 +19,7 @@ pub mod Turns
 pub mod Stored
 pub mod Passages
 pub mod Accepted
+pub mod Accepting
 pub mod Keyed
 pub mod Scopes
 pub mod Sections

@@ -40,7 +40,7 @@ module _ (a : ℕ) where
   abbrev Slotted : List ℕ → Type 0
   Slotted u = (length u ≡ a) × AllByRecursion (λ s. s < 32) u
 
-  tuples_long : (us : List (List ℕ)) → AllByRecursion Slotted us → length (flat_map (λ u. u) us) ≡ length us * a
+  pub tuples_long : (us : List (List ℕ)) → AllByRecursion Slotted us → length (flat_map (λ u. u) us) ≡ length us * a
   tuples_long [] h = sym (zero-mul a)
   tuples_long (u ∷ us) h = omega (arith, length-append u (flat_map (λ v. v) us), h.0.0, tuples_long us h.1, suc-mul (length us) a)
 
@@ -90,7 +90,7 @@ module _ (n : ℕ) (small : n ≤ 32) (t : Table) (h : TableWithin n t) (few : l
 
 module _ (n : ℕ) (small : n ≤ 32) where
   -- tables one after the other
-  tables_good : (ts : List Table) → AllByRecursion (TableWithin n) ts → AllByRecursion (λ t. length t.tuples ≤ 4096) ts → (pre post cells : List ℕ) (f : ℕ) → cells ≡ pre ++ (flat_map cells_of ts ++ post) → length pre ≡ f →
+  pub tables_good : (ts : List Table) → AllByRecursion (TableWithin n) ts → AllByRecursion (λ t. length t.tuples ≤ 4096) ts → (pre post cells : List ℕ) (f : ℕ) → cells ≡ pre ++ (flat_map cells_of ts ++ post) → length pre ≡ f →
       (on_first (table_verdict cells) (records_from f ts) ≡ Ok tt) × (map (table_sheet cells) (records_from f ts) ≡ map sheet_of_table ts)
   tables_good [] h few pre post cells f is long = (refl, refl)
   tables_good (t ∷ ts) h few pre post cells f is long =
@@ -108,7 +108,7 @@ module _ (n : ℕ) (small : n ≤ 32) where
       let read = scope_read n small r.scope h in
       simp (well_sized (length r.scope) h.low h.high, read, in_range r.scope (scope_below n small r.scope h), h.apart)
 
-  rules_good : (rs : List RuleSheet) → AllByRecursion (λ r. ScopeWithin n r.scope) rs → (on_first rule_verdict (map rule_record rs) ≡ Ok tt) × (map rule_sheet (map rule_record rs) ≡ map sheet_of_rule rs)
+  pub rules_good : (rs : List RuleSheet) → AllByRecursion (λ r. ScopeWithin n r.scope) rs → (on_first rule_verdict (map rule_record rs) ≡ Ok tt) × (map rule_sheet (map rule_record rs) ≡ map sheet_of_rule rs)
   rules_good [] h = (refl, refl)
   rules_good (r ∷ rs) h =
       let more = rules_good rs h.1 in
@@ -118,7 +118,7 @@ module _ (n : ℕ) (small : n ≤ 32) where
       )
 
 -- a sheet names a block not below n
-abbrev misfits : ℕ → List Sheet → Bool
+abbrev pub misfits : ℕ → List Sheet → Bool
 misfits n m = some_pass (λ sh. some_pass (λ b. leb n b) sh.scope) m
 
 -- every block of a scope is below n
@@ -127,6 +127,6 @@ module _ (n : ℕ) where
   scope_fits [] h = refl
   scope_fits (b ∷ bs) h = or_from _ _ (lt-leb n b h.0) (scope_fits bs h.1)
 
-  sheets_fit : {A : Type 0} (sheet : A → Sheet) (xs : List A) (rest : List Sheet) → AllByRecursion (λ x. ScopeWithin n (sheet x).scope) xs → misfits n rest ≡ false → misfits n (map sheet xs ++ rest) ≡ false
+  pub sheets_fit : {A : Type 0} (sheet : A → Sheet) (xs : List A) (rest : List Sheet) → AllByRecursion (λ x. ScopeWithin n (sheet x).scope) xs → misfits n rest ≡ false → misfits n (map sheet xs ++ rest) ≡ false
   sheets_fit sheet [] rest h e = e
   sheets_fit sheet (x ∷ xs) rest h e = or_from _ _ (scope_fits (sheet x).scope h.0.blocks) (sheets_fit sheet xs rest h.1 e)

@@ -1,11 +1,15 @@
 -- One turn of a loop over the lines of a card: where the reader stands, and the sizes of what has been read.
 use Rattle.std.proofs.Common.{◌≡◌, ℕ, ◌+◌, List, Some, Ok, sym, ap, ◌∙◌, subst, arith}
 use Rattle.card.specs.declared.entry.Entry.{Entry}
+use Rattle.card.specs.declared.places.Places.{Places}
 use Rattle.card.specs.declared.reader.Reader.{Reader}
 use Rattle.card.specs.declared.sizes.Sizes.{Sizes}
 use Rattle.card.specs.Filling.{added, At, Few, ReadsOn, memory_of, Ready}
-use Rattle.card.specs.Layout.{Memory, sizes_of}
+use Rattle.card.specs.Layout.{Memory, SameLoans, sizes_of}
 use Rattle.card.specs.Verdict.{nothing_read, Reading}
+
+pub later_loans : {p q r : Places} → SameLoans p q → SameLoans q r → SameLoans p r
+later_loans a b = record { masks = b.masks ∙ a.masks; tables = b.tables ∙ a.tables; cells = b.cells ∙ a.cells; rules = b.rules ∙ a.rules }
 
 -- the sizes of what the reader has read
 pub record Counted (card : List ℕ) (r : Reader) (q : Reading) (s : Sizes) : Type 0 where

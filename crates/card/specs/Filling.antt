@@ -1,5 +1,5 @@
 -- What has been spelled so far, as it lies in memory, and what a line adds to it.
-use Rattle.std.specs.Prelude.{◌≡◌, ℕ, suc, ◌+◌, ◌*◌, ◌<◌, ◌≤◌, List, [], ◌∷◌, ◌++◌, map, length, take, Some, None, Ok, Err, Option, Result}
+use Rattle.std.specs.Prelude.{◌≡◌, ℕ, suc, ◌+◌, ◌*◌, ◌<◌, ◌≤◌, cond, ◌&&◌, ◌==◌, List, [], ◌∷◌, ◌++◌, map, length, take, drop, Some, None, Ok, Err, Option, Result}
 use Rattle.std.specs.List.{flat_map}
 use Rattle.banks.specs.declared.table.TableRecord.{TableRecord}
 use Rattle.card.specs.declared.entry.Entry.{Entry}
@@ -7,6 +7,8 @@ use Rattle.card.specs.declared.entry.Entry.TheVariants.{Mask, Nothing, Rule, Tab
 use Rattle.card.specs.declared.reader.Reader.{Reader}
 use Rattle.card.specs.declared.refusal.CardRefusal.{CardRefusal}
 use Rattle.card.specs.declared.sizes.Sizes.{Sizes}
+use Rattle.network.specs.declared.refusal.Refusal.TheVariants.{Malformed}
+use Rattle.card.specs.Judgement.{ends}
 use Rattle.card.specs.Layout.{cells_of, layout, Memory, records_from, rule_record, table_record}
 use Rattle.card.specs.Spelling.{Network}
 use Rattle.card.specs.Stages.{Fit, Solid, stage_of}
@@ -97,11 +99,13 @@ pub record Few (lines : ℕ) (s : Sizes) : Type 0 where
 pub record Ready (r : Reader) : Type 0 where
   pub fit : Fit r.stage
   pub short : r.line + length r.rest.now ≤ 32769
+  pub near : r.start + length r.rest.now ≤ 32768
 
 -- the reader has come to a reading of the card, and the rest decides
 pub record At (card : List ℕ) (r : Reader) (q : Reading) : Type 0 where
   pub solid : Solid q
   pub stage : r.stage ≡ stage_of q
+  pub place : r.rest.now ≡ drop r.start card
   pub rest : verdict card ≡ judge_lines q r.line (lines r.rest.now).full (lines r.rest.now).rest
 
 -- one line later
@@ -109,6 +113,10 @@ pub record Follows (r s : Reader) : Type 0 where
   pub ready : Ready s
   pub line : s.line ≡ r.line + 1
   pub less : length s.rest.now < length r.rest.now
+
+-- at the end of the bytes nothing may be due and nothing left
+abbrev pub ended : Reader → Result (Option Entry) CardRefusal
+ended r = cond (ends r.stage.next && length r.rest.now == 0) (Ok None) (Err (record { refusal = Malformed; line = r.line }))
 
 -- one line more, the end of a good card, or the refusal
 abbrev pub ReadsOn : List ℕ → Reader → Reading → Reader → Result (Option Entry) CardRefusal → Type 0

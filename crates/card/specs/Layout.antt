@@ -1,5 +1,5 @@
 -- How a network lies in memory: a mask for each block, a record for each table, the cells of all tuples, a record for each rule.
-use Rattle.std.specs.Prelude.{ℕ, ◌+◌, List, [], ◌∷◌, ◌++◌, map, length, drop}
+use Rattle.std.specs.Prelude.{◌≡◌, ℕ, ◌+◌, List, [], ◌∷◌, ◌++◌, map, length, drop}
 use Rattle.std.specs.List.{flat_map}
 use Rattle.banks.specs.declared.table.Kind.{Kind}
 use Rattle.banks.specs.declared.table.TableRecord.{TableRecord}
@@ -23,6 +23,13 @@ memory_in p = memory p.masks.now p.tables.now p.cells.now p.rules.now
 
 abbrev pub sizes_of : Memory → Sizes
 sizes_of m = record { masks = length m.masks; tables = length m.tables; cells = length m.cells; rules = length m.rules }
+
+-- the same loans, so that what is written goes where it came from
+pub record SameLoans (p q : Places) : Type 0 where
+  pub masks : q.masks.ghost_name ≡ p.masks.ghost_name
+  pub tables : q.tables.ghost_name ≡ p.tables.ghost_name
+  pub cells : q.cells.ghost_name ≡ p.cells.ghost_name
+  pub rules : q.rules.ghost_name ≡ p.rules.ghost_name
 
 -- a table whose tuples begin at a cell
 abbrev pub table_record : ℕ → Kind → List ℕ → ℕ → TableRecord

@@ -10,7 +10,7 @@ use Rattle.card.specs.declared.sizes.Sizes.{Sizes}
 use Rattle.card.specs.Layout.{layout, Memory, over, sizes_of}
 use Rattle.card.specs.Sheets.{sheets_of}
 use Rattle.card.specs.Spelling.{Network, spell, Within}
-use Rattle.card.specs.Verdict.{fault, spelled, Verdict}
+use Rattle.card.specs.Verdict.{fault, spelled, Verdict, verdict}
 
 abbrev pub fits : Sizes → Sizes → Bool
 fits s room = nat_le s.masks room.masks && (nat_le s.tables room.tables && (nat_le s.cells room.cells && nat_le s.rules room.rules))
@@ -21,9 +21,9 @@ judgement (fault e k) = Err (record { refusal = e; line = k })
 judgement (spelled x) = Ok (sizes_of (layout x))
 
 -- a place that is too short is refused last, at line 0
-abbrev pub answer_for : Verdict → Memory → Result Sizes CardRefusal
-answer_for (fault e k) old = Err (record { refusal = e; line = k })
-answer_for (spelled x) old = cond (fits (sizes_of (layout x)) (sizes_of old)) (Ok (sizes_of (layout x))) (Err (record { refusal = PlaceTooShort; line = 0 }))
+abbrev pub answer_for : Verdict → Sizes → Result Sizes CardRefusal
+answer_for (fault e k) room = Err (record { refusal = e; line = k })
+answer_for (spelled x) room = cond (fits (sizes_of (layout x)) room) (Ok (sizes_of (layout x))) (Err (record { refusal = PlaceTooShort; line = 0 }))
 
 -- the network over the front of each place, or all as it was
 abbrev pub memory_after : Verdict → Memory → Memory
@@ -35,6 +35,11 @@ pub record Spells (card : List ℕ) (x : Network) : Type 0 where
   pub within : Within x
   pub text : card ≡ spell x
   pub short : length card ≤ 32768
+
+-- the verdict is that network exactly where the card spells it
+pub record SpellsExactly (card : List ℕ) (x : Network) : Type 0 where
+  pub judged : verdict card ≡ spelled x → Spells card x
+  pub spelt : Spells card x → verdict card ≡ spelled x
 
 -- the front of each place holds the network: its records pass their checks and mean its sheets, and a session can be opened on them
 pub record HoldsNetwork (x : Network) (s : Sizes) (m : Memory) : Type 0 where

@@ -2,20 +2,21 @@
 #![tactic(auto)]
 
 mod advance;
+pub mod bank;
 mod checks;
 mod counting;
 mod entry;
 mod line;
 mod list;
-mod number;
-mod place;
-mod places;
+pub mod number;
+pub mod place;
+pub mod places;
 mod put;
-mod read;
+pub mod read;
 mod reader;
 mod reading;
-mod refusal;
-mod sizes;
+pub mod refusal;
+pub mod sizes;
 mod stage;
 mod step;
-mod word;
+pub mod word;

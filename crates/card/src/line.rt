@@ -1,29 +1,37 @@
 // The lines of a card: a key, an equals sign and a value.
 ghost use Rattle.card.specs.Kinds.{Keyed, ReadAs};
+ghost use Rattle.std.specs.Prelude.{◌+◌, ◌≤◌, length};
 
 use crate::place::place_of;
 use crate::word::is_word;
 
-// A line by its key, with the bytes of its value.
+// The bytes of a value, and the place in the card where they begin.
+#[derive(Clone, Copy)]
+pub struct Value<'a> {
+    pub bytes: &'a [u8],
+    pub place: usize,
+}
+
+// A line by its key, with its value.
 #[derive(Clone, Copy)]
 pub enum Line<'a> {
-    Blocks(&'a [u8]),
-    Open(&'a [u8]),
-    Sheets(&'a [u8]),
-    Kind(&'a [u8]),
-    Scope(&'a [u8]),
-    Tuples(&'a [u8]),
-    Tuple(&'a [u8]),
-    Rules(&'a [u8]),
-    Rule(&'a [u8]),
-    End(&'a [u8]),
+    Blocks(Value<'a>),
+    Open(Value<'a>),
+    Sheets(Value<'a>),
+    Kind(Value<'a>),
+    Scope(Value<'a>),
+    Tuples(Value<'a>),
+    Tuple(Value<'a>),
+    Rules(Value<'a>),
+    Rule(Value<'a>),
+    End(Value<'a>),
 }
 
 impl<'a> Line<'a> {
     // The line with that key, if there is one. Word after word, for the reasons in word.rt.
     #[tactic(auto, using(crate::proofs::Texts::is_same))]
-    fn keyed(key: &[u8], value: &'a [u8]) -> Option<Line<'a>>
-        ensures { Keyed key.now value.now result }
+    fn keyed(key: &[u8], value: Value<'a>) -> Option<Line<'a>>
+        ensures { Keyed key.now value.entry result }
     {
         if is_word(key, b"blocks") {
             Some(Line::Blocks(value))
@@ -50,14 +58,19 @@ impl<'a> Line<'a> {
         }
     }
 
-    // The line that the bytes before a newline make. By `let .. else`, as is the rule here, and so on with each part.
-    pub(crate) fn read(bytes: &'a [u8]) -> Option<Line<'a>>
-        ensures { ReadAs bytes.now result }
+    // The line that the bytes before a newline make, which begin at that place of the card. By `let .. else`, as is the rule here, and so on
+    // with each part.
+    pub(crate) fn read(bytes: &'a [u8], start: usize) -> Option<Line<'a>>
+        requires { start + length bytes.now ≤ 32768 }
+        ensures { ReadAs start bytes.now result }
     {
         let Some(equals) = place_of(bytes, b'=') else {
             return None;
         };
-        let (key, value) = (&bytes[0..equals], &bytes[equals + 1..]);
-        Line::keyed(key, value)
+        let value = Value {
+            bytes: &bytes[equals + 1..],
+            place: start + equals + 1,
+        };
+        Line::keyed(&bytes[0..equals], value)
     }
 }

@@ -6,7 +6,7 @@ ghost use Rattle.std.specs.Prelude.{◌<◌};
 const CAP: usize = 1 << 32;
 
 // The number that the bytes spell, cut at 2 ^ 32 so that no number of digits is too long. By slice patterns, as is the rule here.
-pub(crate) fn number(bytes: &[u8]) -> Option<usize>
+pub fn number(bytes: &[u8]) -> Option<usize>
     ensures { Numbered bytes.now result }
 {
     match bytes {

@@ -9,7 +9,7 @@ fn first_of(bytes: &[u8], byte: u8) -> Option<usize>
 }
 
 #[tactic(auto, using(crate::proofs::Cuts::cut_position))]
-pub(crate) fn place_of(bytes: &[u8], byte: u8) -> Option<usize>
+pub fn place_of(bytes: &[u8], byte: u8) -> Option<usize>
     ensures { CutAt byte bytes.now result }
 {
     first_of(bytes, byte)

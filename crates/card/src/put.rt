@@ -1,6 +1,6 @@
 // What a line adds, written into memory.
 ghost use Rattle.card.specs.Filling.{FitEntry, HasRoom, added};
-ghost use Rattle.card.specs.Layout.{Memory, memory_in, over, sizes_of};
+ghost use Rattle.card.specs.Layout.{Memory, SameLoans, memory_in, over, sizes_of};
 ghost use Rattle.std.specs.Prelude.{◌≡◌};
 
 use crate::entry::Entry;
@@ -16,6 +16,7 @@ impl Entry {
         requires room { HasRoom self filled (sizes_of (memory_in places.old)) }
         ensures written { (m old : Memory) → filled ≡ sizes_of m → memory_in places.old ≡ over m old →
             memory_in places.new ≡ over (added self m) old }
+        ensures loans { SameLoans places.old places.new }
         ensures sizes { sizes_of (memory_in places.new) ≡ sizes_of (memory_in places.old) }
     {
         match self {

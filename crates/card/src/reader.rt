@@ -1,10 +1,11 @@
 // How far a card has been read.
 use crate::stage::Stage;
 
-// What is left of the card, the number of its first line, and the stage there.
+// What is left of the card and where that begins, the number of its first line, and the stage there.
 #[derive(Clone, Copy)]
 pub struct Reader<'a> {
     pub rest: &'a [u8],
+    pub start: usize,
     pub line: usize,
     pub stage: Stage,
 }

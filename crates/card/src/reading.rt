@@ -1,6 +1,6 @@
 // The reading of a card, line by line.
 ghost use Rattle.std.specs.Prelude.{◌≡◌, ℕ, List};
-ghost use Rattle.card.specs.Filling.{At, ReadsOn, Ready};
+ghost use Rattle.card.specs.Filling.{At, ReadsOn, Ready, ended};
 ghost use Rattle.card.specs.Stages.{stage_of};
 ghost use Rattle.card.specs.Steps.{at_line};
 ghost use Rattle.card.specs.Verdict.{Reading, nothing_read};
@@ -22,11 +22,13 @@ fn at_line(step: Result<Step, Refusal>, line: usize) -> Result<Step, CardRefusal
 impl<'a> Reader<'a> {
     pub(crate) fn new(card: &'a [u8]) -> Reader<'a>
         ensures rest { result.rest.now ≡ card.now }
+        ensures start { result.start ≡ 0 }
         ensures line { result.line ≡ 1 }
         ensures stage { result.stage ≡ stage_of nothing_read }
     {
         Reader {
             rest: card,
+            start: 0,
             line: 1,
             stage: Stage {
                 next: Expected::Blocks,
@@ -36,6 +38,19 @@ impl<'a> Reader<'a> {
         }
     }
 
+    // What the end of the card answers: nothing more where no line is due, and otherwise that one is missing.
+    fn end(&self) -> Result<Option<Entry>, CardRefusal>
+        ensures { result ≡ ended self.now }
+    {
+        if self.stage.is_done() && self.rest.is_empty() {
+            return Ok(None);
+        }
+        Err(CardRefusal {
+            refusal: Refusal::Malformed,
+            line: self.line,
+        })
+    }
+
     // What the next line adds to the network, or nothing where a good card ends.
     pub(crate) fn next_entry(&mut self) -> Result<Option<Entry>, CardRefusal>
         requires { Ready self.old }
@@ -43,17 +58,12 @@ impl<'a> Reader<'a> {
     {
         let rest = self.rest;
         let Some(end) = place_of(rest, b'\n') else {
-            if self.stage.is_done() && rest.is_empty() {
-                return Ok(None);
-            }
-            return Err(CardRefusal {
-                refusal: Refusal::Malformed,
-                line: self.line,
-            });
+            return self.end();
         };
-        let step = at_line(self.stage.step_over(&rest[..end]), self.line)?;
+        let step = at_line(self.stage.step_over(&rest[..end], self.start), self.line)?;
         self.stage = step.stage;
         self.rest = &rest[end + 1..];
+        self.start += end + 1;
         self.line += 1;
         Ok(Some(step.entry))
     }

@@ -1,6 +1,6 @@
 // How much of each place is filled, or has room.
 
-#[derive(Clone, Copy, Default)]
+#[derive(Clone, Copy, PartialEq, Default)]
 pub struct Sizes {
     pub masks: usize,
     pub tables: usize,

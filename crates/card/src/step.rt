@@ -1,5 +1,6 @@
 // One line more: the stage after it, and what it adds to the network.
-ghost use Rattle.std.specs.Prelude.{◌≡◌, ℕ, ◌≤◌, true, List, length, codes, nat_lt};
+ghost use Rattle.std.specs.Prelude.{◌≡◌, ℕ, ◌-◌, ◌≤◌, true, List, length, codes, nat_lt};
+ghost use Rattle.card.specs.Checks.{number_checked};
 ghost use Rattle.card.specs.Lists.{list_of};
 ghost use Rattle.card.specs.Stages.{stage_of};
 ghost use Rattle.card.specs.Steps.{answered, step_of_stage};
@@ -83,6 +84,14 @@ impl Stage {
         Ok(self.then(Expected::Tuples(more, kind, scope), Entry::Nothing))
     }
 
+    // How many tuples a table has: no more than all tables may still have together.
+    fn tuple_count(self, value: &[u8]) -> Result<usize, Refusal>
+        requires { self.tuples ≤ 4096 }
+        ensures { result ≡ number_checked 0 (4096 - self.tuples) value.now }
+    {
+        number_in(value, 0, MAX_TUPLES - self.tuples)
+    }
+
     pub(crate) fn after_tuples(
         self,
         more: usize,
@@ -93,7 +102,7 @@ impl Stage {
         requires { self.tuples ≤ 4096 }
         ensures { (q : Reading) (blocks : List ℕ) → self ≡ stage_of q → scope ≡ list_of blocks → result ≡ answered q (rows_due more kind blocks) (codes "rows") value.now }
     {
-        let tuples = number_in(value, 0, MAX_TUPLES - self.tuples)?;
+        let tuples = self.tuple_count(value)?;
         let next = Expected::tuple_or_next(more, scope.count, tuples, NumberList::empty());
         let stage = Stage {
             tuples: self.tuples + tuples,

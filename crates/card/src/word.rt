@@ -9,7 +9,7 @@ use network::refusal::Refusal;
 
 // Whether the text is that word. A `match` on byte strings would not do: where no word fits, it leaves a proof no fact of the bytes.
 #[tactic(auto, using(crate::proofs::Texts::told))]
-pub(crate) fn is_word(text: &[u8], word: &[u8]) -> bool
+pub fn is_word(text: &[u8], word: &[u8]) -> bool
     ensures { result ≡ same_bytes text.now word.now }
 {
     text == word

@@ -10,6 +10,6 @@ loop-entry-init c =
     let r = c.new-reader.result in
     let is = c.new-reader.ensures in (
       nothing_read,
-      first_counted card r c.default-sizes.result (first_ready card r c.if-card-gt-MAX_BYTES.false is.rest is.line is.stage)
-          (first_at card r c.if-card-gt-MAX_BYTES.false is.rest is.line is.stage) (search rules),
+      first_counted card r c.default-sizes.result (first_ready card r c.if-card-gt-MAX_BYTES.false is.rest is.start is.line is.stage)
+          (first_at card r c.if-card-gt-MAX_BYTES.false is.rest is.start is.line is.stage) (search rules),
     )
