@@ -1,23 +1,17 @@
-// Shows the example network: what its sheets support, what each filter leaves of a row, and its plans.
+// Lists the plans of a card: reads network.txt and commands.txt in the folder that it runs in, and prints the transcript.
 #![tactic(auto)]
 
-mod commas;
-mod filtering;
-mod listing_of;
-mod sheets;
+use script::run::run;
+use std::{fs, io};
 
-use banks::pair::Pair;
-use banks::rule_bank::RuleBank;
-use banks::table_bank::TableBank;
-use six_blocks::{CELLS, OPEN, RULES, TABLES};
-use std::io;
+// The bytes of a file; one that cannot be read counts as empty.
+fn contents(rt: &HostRuntime, path: &str) -> Vec<u8> {
+    fs::read(rt, path).unwrap_or(Vec::new(rt.alloc()))
+}
 
 fn main(rt: HostRuntime) -> io::Result<()> {
-    let bank = Pair {
-        first: TableBank::new(&TABLES, &CELLS),
-        second: RuleBank::new(&RULES),
-    };
-    sheets::show(&rt, &bank, &OPEN)?;
-    filtering::show(&rt, &bank.first, &OPEN)?;
-    listing_of::show(&rt, &bank.first, &OPEN)
+    let card = contents(&rt, "network.txt");
+    let commands = contents(&rt, "commands.txt");
+    let text = run(rt.alloc(), &card, &commands)?;
+    rt.print(text)
 }
