@@ -1,6 +1,7 @@
 // The bank of sheets that a list of records stands for.
 ghost use Rattle.banks.specs.Accepted.{records_lawful};
 ghost use Rattle.banks.specs.Verdicts.{accepts, on_records};
+ghost use Rattle.network.specs.Sheets.{sheet_at};
 ghost use Rattle.std.specs.Prelude.{◌≡◌, true, cond, [], map};
 
 use crate::record::Record;
@@ -30,6 +31,16 @@ impl<'a, R: Record> RecordBank<'a, R> {
             },
         }
     }
+
+    // The blocks of sheet `c`, or none for a sheet that isn't there.
+    fn scope_at(&self, c: usize) -> &[u8]
+        ensures { result.now ≡ (sheet_at (map (R.sheet self.now.cells.now) self.now.records.now) c).scope }
+    {
+        match self.records.get(c) {
+            Some(line) => line.scope(),
+            None => &[],
+        }
+    }
 }
 
 impl<'a, R: Record> Bank for RecordBank<'a, R> {
@@ -42,17 +53,11 @@ impl<'a, R: Record> Bank for RecordBank<'a, R> {
     }
 
     fn arity(&self, c: usize) -> usize {
-        match self.records.get(c) {
-            Some(line) => line.scope().len(),
-            None => 0,
-        }
+        self.scope_at(c).len()
     }
 
     fn block(&self, c: usize, p: usize) -> u8 {
-        match self.records.get(c) {
-            Some(line) => line.scope().get(p).copied().unwrap_or(NO_BLOCK),
-            None => NO_BLOCK,
-        }
+        self.scope_at(c).get(p).copied().unwrap_or(NO_BLOCK)
     }
 
     fn supports(&self, c: usize, masks: &[u32; 6], p: usize, s: u8) -> bool {

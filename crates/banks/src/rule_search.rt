@@ -35,7 +35,7 @@ fn with_slot(used: u32, s: u8) -> u32
     used | single(s)
 }
 
-// Whether slots that all differ, and are none of `used`, can be chosen from the masks. A recursion, as is the rule here.
+// Whether slots that all differ, and are none of `used`, can be chosen from the masks. A recursion (docs/DECISIONS.md, Forms).
 pub(crate) fn some_distinct(masks: &[u32], used: u32) -> bool
     ensures { result ≡ some_pass (free used) (choices masks.now) }
 {
