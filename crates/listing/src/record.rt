@@ -25,7 +25,7 @@ impl BlockRecord {
         self.pin.map_or(self.opened, single)
     }
 
-    // Sets the pin, by a call on the one record, as is the rule here. The open mask stays as it is.
+    // Sets the pin, by a call on the one record (docs/DECISIONS.md, Forms). The open mask stays as it is.
     pub fn pin_at(&mut self, slot: u8)
         ensures { self.new ≡ pinned_at self.old slot }
     {

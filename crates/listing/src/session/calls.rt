@@ -1,5 +1,6 @@
 // The calls of a session that visit no node.
 ghost use Rattle.std.specs.Prelude.{◌≡◌, ◌≤◌, not, ◌||◌, List, map, OnErr, ◌==◌, nat_lt};
+ghost use Rattle.listing.specs.Example.{WorkedListings};
 ghost use Rattle.listing.specs.Model.{blank, open_call, pin_call, rewind_call};
 ghost use Rattle.listing.specs.Records.{unpinned};
 ghost use Rattle.listing.specs.Represents.{Represents, Runs, Takes, done_of};
@@ -21,8 +22,10 @@ fn is_block_count(blocks: usize) -> bool
 }
 
 impl Session {
+    // A blank session. The other clause is of worked lists of calls on one; it is kept shut, so that no caller's proof computes them again.
     pub fn blank() -> Session
-        ensures { Represents result blank }
+        ensures stands { Represents result blank }
+        ensures example { ∥ WorkedListings ∥₁ }
     {
         Session { listing: None }
     }
