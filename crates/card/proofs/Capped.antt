@@ -1,8 +1,8 @@
 -- A number that is cut at 2 ^ 32 after each digit is the number cut at 2 ^ 32, and the forms of a number are told by its first digit.
-use Rattle.std.proofs.Common.{◌≡◌, ℕ, ◌+◌, ◌-◌, ◌*◌, ◌<◌, ◌≤◌, Bool, true, false, ◌&&◌, leb, List, [], ◌∷◌, length, get_or, drop, sym, ap, ◌∙◌, arith}
+use Rattle.std.proofs.Common.{◌≡◌, ℕ, ◌+◌, ◌-◌, ◌*◌, ◌<◌, ◌≤◌, Bool, true, ◌&&◌, leb, List, [], ◌∷◌, length, get_or, drop, sym, ap, ◌∙◌, arith}
 use Rattle.std.specs.List.{list_all}
 use Rattle.std.proofs.lemmas.List.{at_drop_more}
-use Rattle.std.proofs.lemmas.Bool.{and_from, and_left, le-leb}
+use Rattle.std.proofs.lemmas.Bool.{and_from, le-leb}
 use Rattle.card.specs.Parts.{capped}
 use Rattle.card.specs.Verdict.{is_digit, value_from}
 
@@ -17,11 +17,8 @@ capped_on m (x ∷ xs) =
 pub digit_byte : (x : ℕ) → 48 ≤ x → x < 58 → is_digit x ≡ true
 digit_byte x l h = and_from (leb 48 x) (leb x 57) (le-leb 48 x l) (le-leb x 57 (omega arith))
 
--- a loop over digits: at a byte that is none, and at one more digit
+-- a loop over digits, at one more digit
 module _ (xs : List ℕ) (i : ℕ) (there : i < length xs) where
-  pub no_digits : list_all is_digit (drop i xs) ≡ list_all is_digit xs → is_digit (get_or xs i 0) ≡ false → list_all is_digit xs ≡ false
-  no_digits same e = sym same ∙ at_drop_more (list_all is_digit) xs i 0 there ∙ and_left _ (list_all is_digit (drop (i + 1) xs)) e
-
   pub more_digits : {b : Bool} → list_all is_digit (drop i xs) ≡ b → is_digit (get_or xs i 0) ≡ true → list_all is_digit (drop (i + 1) xs) ≡ b
   more_digits same e = sym (ap (λ t. t && list_all is_digit (drop (i + 1) xs)) e) ∙ sym (at_drop_more (list_all is_digit) xs i 0 there) ∙ same
 

@@ -1,12 +1,12 @@
--- The checks of a value, where each of them passes or fails.
+-- The checks of the numbers that a list holds, where each of them passes or fails.
 use Rattle.std.proofs.Common.{◌≡◌, ℕ, ◌<◌, ◌≤◌, min, Bool, true, false, ◌&&◌, eqb, ltb, leb, ◌⊎◌, List, [], ◌∷◌, map, length, take, Ok, Err, sym, refl, ap, ◌∙◌, ap₂, inl, inr, arith}
 use lib.ListN.{length-map}
 use Rattle.std.specs.List.{list_all}
 use Rattle.std.proofs.lemmas.List.{get_or-map, get_or-take, length-take-le, same_lists}
-use Rattle.std.proofs.lemmas.Bool.{and_from, and_left, and_parts, and_right, cases_lt, eq-eqb, le-leb, lt-leb, lt-ltb, le-ltb, ltb-true, ne_eqb}
+use Rattle.std.proofs.lemmas.Bool.{and_from, and_parts, cases_lt, eq-eqb, le-leb, lt-ltb, le-ltb, ltb-true}
 use Rattle.network.specs.Sheets.{is_distinct}
 use Rattle.network.specs.Tree.{precedes}
-use Rattle.network.specs.declared.refusal.Refusal.TheVariants.{LimitExceeded, Malformed, OutOfRange, Repeated}
+use Rattle.network.specs.declared.refusal.Refusal.TheVariants.{OutOfRange, Repeated}
 use Rattle.card.specs.declared.list.NumberList.{NumberList}
 use Rattle.card.specs.Checks.{scope_checked, tuple_checked}
 use Rattle.card.specs.Lists.{Holds, list_of, packed}
@@ -62,58 +62,46 @@ module _ (bs : List ℕ) (l : NumberList) (h : Holds l (map value_of (pieces bs)
     held_values n k e = held_front ∙ same_min n (map value_of (pieces bs)) k (sym (all_pass_map (λ x. ltb x n) value_of (pieces bs)) ∙ e)
 
   -- the checks of a scope
-  module _ (n : ℕ) (small : n ≤ 32) (form : list_all is_number (pieces bs) ≡ true) where
-    pub scope_few : l.count < 2 → Err LimitExceeded ≡ scope_checked n bs
-    scope_few k = sym (rw (form, and_left (leb 2 (length (pieces bs))) (leb (length (pieces bs)) 6) (lt-leb 2 (length (pieces bs)) (omega (arith, held_count)))))
+  module _ (n : ℕ) (small : n ≤ 32) (form : list_all is_number (pieces bs) ≡ true) (low : 2 ≤ l.count) (high : l.count ≤ 6) where
+    sized : (leb 2 (length (pieces bs)) && leb (length (pieces bs)) 6) ≡ true
+    sized = and_from _ _ (le-leb 2 (length (pieces bs)) (omega (arith, held_count))) (le-leb (length (pieces bs)) 6 (omega (arith, held_count)))
 
-    pub scope_many : 6 < l.count → Err LimitExceeded ≡ scope_checked n bs
-    scope_many k = sym (rw (form, and_right (leb 2 (length (pieces bs))) (leb (length (pieces bs)) 6) (lt-leb (length (pieces bs)) 6 (omega (arith, held_count)))))
+    pub scope_out : false ≡ list_all (λ x. ltb x n) (take l.count l.numbers) → Err OutOfRange ≡ scope_checked n bs
+    scope_out e = sym (rw (form, sized, sym (held_below high n small) ∙ sym e))
 
-    module _ (low : 2 ≤ l.count) (high : l.count ≤ 6) where
-      sized : (leb 2 (length (pieces bs)) && leb (length (pieces bs)) 6) ≡ true
-      sized = and_from _ _ (le-leb 2 (length (pieces bs)) (omega (arith, held_count))) (le-leb (length (pieces bs)) 6 (omega (arith, held_count)))
+    module _ (inside : true ≡ list_all (λ x. ltb x n) (take l.count l.numbers)) where
+      ranged : list_all (λ p. ltb (value_of p) n) (pieces bs) ≡ true
+      ranged = sym (held_below high n small) ∙ sym inside
 
-      pub scope_out : false ≡ list_all (λ x. ltb x n) (take l.count l.numbers) → Err OutOfRange ≡ scope_checked n bs
-      scope_out e = sym (rw (form, sized, sym (held_below high n small) ∙ sym e))
+      apart : {b : Bool} → b ≡ is_distinct eqb (take l.count l.numbers) → is_distinct eqb (map value_of (pieces bs)) ≡ b
+      apart e = sym (ap (is_distinct eqb) (held_values high n small ranged)) ∙ sym e
 
-      module _ (inside : true ≡ list_all (λ x. ltb x n) (take l.count l.numbers)) where
-        ranged : list_all (λ p. ltb (value_of p) n) (pieces bs) ≡ true
-        ranged = sym (held_below high n small) ∙ sym inside
+      pub scope_twice : false ≡ is_distinct eqb (take l.count l.numbers) → Err Repeated ≡ scope_checked n bs
+      scope_twice e = sym (rw (form, sized, ranged, apart e))
 
-        apart : {b : Bool} → b ≡ is_distinct eqb (take l.count l.numbers) → is_distinct eqb (map value_of (pieces bs)) ≡ b
-        apart e = sym (ap (is_distinct eqb) (held_values high n small ranged)) ∙ sym e
-
-        pub scope_twice : false ≡ is_distinct eqb (take l.count l.numbers) → Err Repeated ≡ scope_checked n bs
-        scope_twice e = sym (rw (form, sized, ranged, apart e))
-
-        pub scope_good : true ≡ is_distinct eqb (take l.count l.numbers) → Ok l ≡ scope_checked n bs
-        scope_good e = ap Ok (holds_is l (map value_of (pieces bs)) h) ∙ sym (rw (form, sized, ranged, apart e))
+      pub scope_good : true ≡ is_distinct eqb (take l.count l.numbers) → Ok l ≡ scope_checked n bs
+      scope_good e = ap Ok (holds_is l (map value_of (pieces bs)) h) ∙ sym (rw (form, sized, ranged, apart e))
 
   -- the checks of a tuple
-  module _ (arity : ℕ) (last : List ℕ) where
-    pub tuple_other : (l.count ≡ arity → ⊥) → Err Malformed ≡ tuple_checked arity last bs
-    tuple_other k =
-        sym (rw (and_right (list_all is_number (pieces bs)) (eqb (length (pieces bs)) arity) (ne_eqb (length (pieces bs)) arity (λ e. k (held_count ∙ e)))))
+  module _ (arity : ℕ) (last : List ℕ) (form : list_all is_number (pieces bs) ≡ true) (as_many : l.count ≡ arity) (few : arity ≤ 6) where
+    formed : (list_all is_number (pieces bs) && eqb (length (pieces bs)) arity) ≡ true
+    formed = and_from _ _ form (eq-eqb (length (pieces bs)) arity (sym held_count ∙ as_many))
 
-    module _ (form : list_all is_number (pieces bs) ≡ true) (as_many : l.count ≡ arity) (few : arity ≤ 6) where
-      formed : (list_all is_number (pieces bs) && eqb (length (pieces bs)) arity) ≡ true
-      formed = and_from _ _ form (eq-eqb (length (pieces bs)) arity (sym held_count ∙ as_many))
+    slots : list_all (λ x. ltb x 32) (take arity l.numbers) ≡ list_all (λ p. ltb (value_of p) 32) (pieces bs)
+    slots = ap (λ k. list_all (λ x. ltb x 32) (take k l.numbers)) (sym as_many) ∙ held_below (omega arith) 32 (omega arith)
 
-      slots : list_all (λ x. ltb x 32) (take arity l.numbers) ≡ list_all (λ p. ltb (value_of p) 32) (pieces bs)
-      slots = ap (λ k. list_all (λ x. ltb x 32) (take k l.numbers)) (sym as_many) ∙ held_below (omega arith) 32 (omega arith)
+    pub tuple_out : false ≡ list_all (λ x. ltb x 32) (take arity l.numbers) → Err OutOfRange ≡ tuple_checked arity last bs
+    tuple_out e = sym (rw (formed, sym slots ∙ sym e))
 
-      pub tuple_out : false ≡ list_all (λ x. ltb x 32) (take arity l.numbers) → Err OutOfRange ≡ tuple_checked arity last bs
-      tuple_out e = sym (rw (formed, sym slots ∙ sym e))
+    module _ (inside : true ≡ list_all (λ x. ltb x 32) (take arity l.numbers)) where
+      slotted : list_all (λ p. ltb (value_of p) 32) (pieces bs) ≡ true
+      slotted = sym slots ∙ sym inside
 
-      module _ (inside : true ≡ list_all (λ x. ltb x 32) (take arity l.numbers)) where
-        slotted : list_all (λ p. ltb (value_of p) 32) (pieces bs) ≡ true
-        slotted = sym slots ∙ sym inside
+      after : {b : Bool} → b ≡ precedes last (take arity l.numbers) → precedes last (map value_of (pieces bs)) ≡ b
+      after e = ap (precedes last) (sym (held_values (omega arith) 32 (omega arith) slotted) ∙ ap (λ k. take k l.numbers) as_many) ∙ sym e
 
-        after : {b : Bool} → b ≡ precedes last (take arity l.numbers) → precedes last (map value_of (pieces bs)) ≡ b
-        after e = ap (precedes last) (sym (held_values (omega arith) 32 (omega arith) slotted) ∙ ap (λ k. take k l.numbers) as_many) ∙ sym e
+      pub tuple_late : false ≡ precedes last (take arity l.numbers) → Err Repeated ≡ tuple_checked arity last bs
+      tuple_late e = sym (rw (formed, slotted, after e))
 
-        pub tuple_late : false ≡ precedes last (take arity l.numbers) → Err Repeated ≡ tuple_checked arity last bs
-        tuple_late e = sym (rw (formed, slotted, after e))
-
-        pub tuple_good : true ≡ precedes last (take arity l.numbers) → Ok l ≡ tuple_checked arity last bs
-        tuple_good e = ap Ok (holds_is l (map value_of (pieces bs)) h) ∙ sym (rw (formed, slotted, after e))
+      pub tuple_good : true ≡ precedes last (take arity l.numbers) → Ok l ≡ tuple_checked arity last bs
+      tuple_good e = ap Ok (holds_is l (map value_of (pieces bs)) h) ∙ sym (rw (formed, slotted, after e))

@@ -1,12 +1,11 @@
 -- What a card has spelled so far takes no more room than the network that it spells in the end.
-use Rattle.std.proofs.Common.{◌≡◌, ℕ, suc, ◌≤◌, Bool, true, ◌&&◌, eqb, List, [], ◌∷◌, length, take, Some, None, Ok, Err, Option, Result, sym, refl, ap, ◌∙◌, subst, inl, inr, arith, length-append}
+use Rattle.std.proofs.Common.{◌≡◌, ℕ, suc, ◌≤◌, Bool, true, ◌&&◌, eqb, List, [], ◌∷◌, length, take, Some, Ok, sym, refl, ap, ◌∙◌, subst, inl, inr, arith, length-append}
 use Rattle.std.proofs.lemmas.List.{length_push, length-take-le}
 use Rattle.std.proofs.lemmas.Bool.{and_parts, cases_Bool, cond-false, cond-true, leb-true}
 use Rattle.network.specs.declared.refusal.Refusal.TheVariants.{Malformed}
 use Rattle.card.specs.declared.entry.Entry.{Entry}
 use Rattle.card.specs.declared.entry.Entry.TheVariants.{Mask, Nothing, Rule, Table, Tuple}
 use Rattle.card.specs.declared.reader.Reader.{Reader}
-use Rattle.card.specs.declared.refusal.CardRefusal.{CardRefusal}
 use Rattle.card.specs.declared.sizes.Sizes.{Sizes}
 use Rattle.card.specs.Judgement.{ends}
 use Rattle.card.specs.Filling.{added, At, FitEntry, ReadsOn, HasRoom, memory_of}
@@ -99,12 +98,6 @@ module _ (x : Network) where
     -- the reader is at a reading that leads to x
     pub stands_within : (r : Reader) (q : Reading) → At card r q → Within (sizes_of (memory_of q)) (sizes_of (layout x))
     stands_within r q stands = grows (lines r.rest.now).full q r.line (lines r.rest.now).rest stands.solid (sym stands.rest ∙ spells)
-
-    -- where no line is left, all of x has been read
-    pub all_read : (r s : Reader) (q : Reading) (o : Result (Option Entry) CardRefusal) → ReadsOn card r q s o → ((y : Entry) → o ≡ Ok (Some y) → ⊥) → memory_of q ≡ layout x
-    all_read r s q (Ok (Some y)) goes none = absurd (none y refl)
-    all_read r s q (Ok None) goes none = goes.1 ∙ ap layout (same_network q.net x (sym goes.0 ∙ spells))
-    all_read r s q (Err e) goes none = absurd (never (let f : fault e.refusal e.line ≡ spelled x = sym goes ∙ spells in cc))
 
     -- there is room for the next entry
     pub has_room : (r s : Reader) (q : Reading) (y : Entry) (filled room : Sizes) → ReadsOn card r q s (Ok (Some y)) → filled ≡ sizes_of (memory_of q) → Within (sizes_of (layout x)) room → HasRoom y filled room

@@ -1,15 +1,12 @@
 -- One entry more in memory, written where what is filled ends.
-use Rattle.std.proofs.Common.{◌≡◌, ℕ, ◌+◌, ◌-◌, ◌<◌, ◌≤◌, List, [], ◌∷◌, ◌++◌, length, get_or, take, drop, set, sym, ap, ◌∙◌, subst, ap₂, append_assoc, arith, length-append, length-drop}
-use borrow.Rule.Slice.PartMut.{put_mid}
-use lib.Seq.{paste}
-use Rattle.std.proofs.lemmas.List.{drop_at, drop-drop, drop_more, length_push, length-take-le, set_at, take_all, take_at}
-use Rattle.std.proofs.lemmas.Slice.{put_mid-paste}
+use Rattle.std.proofs.Common.{◌≡◌, ℕ, ◌+◌, ◌-◌, ◌<◌, List, [], ◌∷◌, ◌++◌, length, get_or, drop, set, sym, ap, ◌∙◌, subst, ap₂, append_assoc, arith, length-append, length-drop}
+use Rattle.std.proofs.lemmas.List.{drop_more, length_push, set_at}
 use Rattle.banks.specs.declared.rule.Rule.{Rule}
 use Rattle.banks.specs.declared.rule.RuleRecord.{RuleRecord}
 use Rattle.banks.specs.declared.table.Kind.{Kind}
 use Rattle.banks.specs.declared.table.TableRecord.{TableRecord}
 use Rattle.card.specs.declared.entry.Entry.{Entry}
-use Rattle.card.specs.declared.entry.Entry.TheVariants.{Mask, Rule as RuleEntry, Table, Tuple}
+use Rattle.card.specs.declared.entry.Entry.TheVariants.{Mask, Rule as RuleEntry, Table}
 use Rattle.card.specs.declared.list.NumberList.{NumberList}
 use Rattle.card.specs.declared.sizes.Sizes.{Sizes}
 use Rattle.card.specs.Filling.{added, HasRoom}
@@ -25,13 +22,6 @@ module _ {A : Type 0} (xs ys : List A) where
       let rest = drop (length xs + 1) ys in
       ap (λ zs. set (xs ++ zs) n v) (drop_more ys (length xs) v l) ∙ set_at xs (get_or ys (length xs) v) rest v n (sym is)
       ∙ sym (append_assoc xs (v ∷ []) rest) ∙ ap (λ k. (xs ++ (v ∷ [])) ++ drop k ys) (sym (length_push xs v))
-
-  written_append : (us : List A) (n k : ℕ) → n ≡ length xs → k ≡ length us → paste (written xs ys) n us k ≡ written (xs ++ us) ys
-  written_append us n k is many =
-      let at_end = drop (length xs) ys in
-      ap₂ (λ zs ws. zs ++ ws ++ drop (n + k) (written xs ys)) (take_at xs at_end n (sym is)) (take_all k us (omega arith))
-      ∙ ap (λ zs. xs ++ us ++ zs) (sym (drop-drop k n (written xs ys)) ∙ ap (drop k) (drop_at xs at_end n (sym is)) ∙ drop-drop k (length xs) ys)
-      ∙ ap (λ m. (xs ++ us) ++ drop m ys) (omega (arith, length-append xs us))
 
 module _ (m old now : Memory) (filled : Sizes) (is : filled ≡ sizes_of m) (held : now ≡ over m old) (self : Entry) (room : HasRoom self filled (sizes_of now)) where
   -- the same of the entry that it is
@@ -67,14 +57,3 @@ module _ (m old now : Memory) (filled : Sizes) (is : filled ≡ sizes_of m) (hel
       told (RuleEntry rule scope) _ e (λ here.
       ap₂ build held (ap (λ (w : Memory). set w.rules filled.rules line) held
       ∙ written_push m.rules old.rules filled.rules line n_is (subst (λ (w : Memory). filled.rules < length w.rules) held here)))
-
-  pub put_tuple : (u : NumberList) (k : ℕ) (us : List ℕ) → self ≡ Tuple u → us ≡ take u.count u.numbers → u.count ≤ length u.numbers → k ≡ u.count →
-      record { masks = now.masks; tables = now.tables; cells = put_mid filled.cells k now.cells us; rules = now.rules } ≡ over (added self m) old
-  put_tuple u k us e us-is wide k-is =
-      let n_is : filled.cells ≡ length m.cells = ap (λ (s : Sizes). s.cells) is in
-      let zs = take u.count u.numbers in
-      let many : u.count ≡ length zs = sym (length-take-le u.count u.numbers wide) in
-      let build : Memory → List ℕ → Memory = λ w xs. record { masks = w.masks; tables = w.tables; cells = xs; rules = w.rules } in
-      told (Tuple u) _ e (λ here.
-      ap₂ build held (put_mid-paste filled.cells k now.cells us zs u.count us-is (sym k-is) many
-      ∙ ap (λ (w : Memory). paste w.cells filled.cells zs u.count) held ∙ written_append m.cells old.cells zs filled.cells u.count n_is many))

@@ -1,14 +1,10 @@
 -- A line is refused where its checks refuse its value, and otherwise leads on to the next stage.
-use Rattle.std.proofs.Common.{◌≡◌, Bool, true, false, Ok, Err, refl, ◌∙◌, ap₂}
+use Rattle.std.proofs.Common.{◌≡◌, Bool, true, false, Ok, Err, refl}
 use Rattle.network.specs.declared.refusal.Refusal.{Refusal}
 use Rattle.card.specs.declared.entry.Entry.{Entry}
-use Rattle.card.specs.declared.entry.Step.{Step}
-use Rattle.card.specs.declared.stage.Expected.{Expected}
-use Rattle.card.specs.declared.stage.Stage.{Stage}
 use Rattle.card.specs.Checks.{checked}
-use Rattle.card.specs.Stages.{expected_of, stage_of}
-use Rattle.card.specs.Steps.{answer, step_of, step_of_stage}
-use Rattle.card.specs.Verdict.{at, Due, judged, Reading}
+use Rattle.card.specs.Steps.{answer, step_of}
+use Rattle.card.specs.Verdict.{judged, Reading}
 use Rattle.card.proofs.Tests.{never}
 
 -- the checks of a value, and those of its line
@@ -25,7 +21,3 @@ goes true true true false v p x w h = absurd (never cc)
 goes true true false d v p x w h = absurd (never cc)
 goes true false c d v p x w h = absurd (never cc)
 goes false b c d v p x w h = absurd (never cc)
-
--- the stage with another line due
-pub leads : (s : Stage) (q : Reading) (next : Expected) (d : Due) (x : Entry) (r : Step) → r ≡ step_of_stage s next x → s ≡ stage_of q → next ≡ expected_of d → r ≡ step_of (at d q) x
-leads s q next d x r is s_is next-is = is ∙ ap₂ (λ t n. step_of_stage t n x) s_is next-is

@@ -11,8 +11,8 @@ use crate::stage::{Expected, Stage};
 use network::refusal::Refusal;
 
 impl Stage {
-    // The step that the line makes, if it is the one that is due. A match on two enums that definitions speak of: as a closure, what is
-    // due would be a type parameter with clauses of its own.
+    // The step that the line makes, if it is the one that is due. It is a match over (what is due, line) because the definitions
+    // name the cases of both, while a closure for what is due would give each stage a type parameter with clauses of its own.
     pub(crate) fn step(self, line: Line) -> Result<Step, Refusal>
         requires { Fit self }
         ensures { (q : Reading) → SlotsOnly q.due → self ≡ stage_of q → result ≡ answered q q.due (key_of line.entry) (bytes_of line.entry) }
@@ -22,20 +22,26 @@ impl Stage {
             (Expected::Open(more), Line::Open(value)) => self.after_open(more, value.bytes),
             (Expected::Sheets, Line::Sheets(value)) => self.after_sheets(value.bytes),
             (Expected::Kind(more), Line::Kind(value)) => self.after_kind(more, value.bytes),
-            (Expected::Scope(more, kind), Line::Scope(value)) => self.after_scope(
+            (Expected::Scope { more, kind }, Line::Scope(value)) => self.after_scope(
                 more,
                 kind,
                 value.bytes,
             ),
-            (Expected::Tuples(more, kind, scope), Line::Tuples(value)) => {
+            (Expected::Tuples { more, kind, scope }, Line::Tuples(value)) => {
                 self.after_tuples(more, kind, scope, value.bytes)
             }
-            (Expected::Tuple(more, arity, left, last), Line::Tuple(value)) => {
-                self.after_tuple(more, arity, left, last, value.bytes)
-            }
+            (
+                Expected::Tuple {
+                    more,
+                    arity,
+                    left,
+                    last,
+                },
+                Line::Tuple(value),
+            ) => { self.after_tuple(more, arity, left, last, value.bytes) }
             (Expected::Rules, Line::Rules(value)) => self.after_rules(value.bytes),
             (Expected::Rule(more), Line::Rule(value)) => self.after_rule(more, value.bytes),
-            (Expected::RuleScope(more, rule), Line::Scope(value)) => {
+            (Expected::RuleScope { more, rule }, Line::Scope(value)) => {
                 self.after_rule_scope(more, rule, value.bytes)
             }
             (Expected::End, Line::End(value)) => self.after_end(value.bytes),

@@ -19,7 +19,9 @@ pub(crate) fn number_in(value: &[u8], least: usize, most: usize) -> Result<usize
     requires { most < 2 ^ 32 }
     ensures { result ≡ number_checked least most value.now }
 {
-    let n = number(value).ok_or(Refusal::Malformed)?;
+    let Some(n) = number(value) else {
+        return Err(Refusal::Malformed);
+    };
     if n < least || n > most {
         return Err(Refusal::LimitExceeded);
     }
@@ -36,7 +38,9 @@ pub(crate) fn scope_in(value: &[u8], blocks: usize) -> Result<NumberList, Refusa
     requires { blocks ≤ 32 }
     ensures { result ≡ scope_checked blocks value.now }
 {
-    let list = NumberList::read(value).ok_or(Refusal::Malformed)?;
+    let Some(list) = NumberList::read(value) else {
+        return Err(Refusal::Malformed);
+    };
     if list.count < MIN_ARITY || list.count > MAX_ARITY {
         return Err(Refusal::LimitExceeded);
     }
@@ -63,7 +67,9 @@ pub(crate) fn tuple_in(value: &[u8], arity: usize, last: &[u8]) -> Result<Number
     requires { arity ≤ 6 }
     ensures { result ≡ tuple_checked arity last.now value.now }
 {
-    let list = NumberList::read(value).ok_or(Refusal::Malformed)?;
+    let Some(list) = NumberList::read(value) else {
+        return Err(Refusal::Malformed);
+    };
     if list.count != arity {
         return Err(Refusal::Malformed);
     }

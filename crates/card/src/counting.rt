@@ -21,7 +21,7 @@ impl Sizes {
                 masks: self.masks + 1,
                 ..self
             },
-            Entry::Table(..) => Sizes {
+            Entry::Table { .. } => Sizes {
                 tables: self.tables + 1,
                 ..self
             },
@@ -29,7 +29,7 @@ impl Sizes {
                 cells: self.cells + tuple.count,
                 ..self
             },
-            Entry::Rule(..) => Sizes {
+            Entry::Rule { .. } => Sizes {
                 rules: self.rules + 1,
                 ..self
             },

@@ -8,9 +8,16 @@ use banks::table::Kind;
 pub enum Entry {
     Nothing,
     Mask(u32),
-    Table(Kind, NumberList, usize),
+    Table {
+        kind: Kind,
+        scope: NumberList,
+        tuples: usize,
+    },
     Tuple(NumberList),
-    Rule(Rule, NumberList),
+    Rule {
+        rule: Rule,
+        scope: NumberList,
+    },
 }
 
 // The stage after a line, and what the line adds.

@@ -58,8 +58,8 @@ impl<'a> Line<'a> {
         }
     }
 
-    // The line that the bytes before a newline make, which begin at that place of the card. By `let .. else`, as is the rule here, and so on
-    // with each part.
+    // The line that the bytes before a newline make, which begin at that place of the card. By `let .. else`, and so on with each
+    // part, as is the rule here (docs/DECISIONS.md, Forms).
     pub(crate) fn read(bytes: &'a [u8], start: usize) -> Option<Line<'a>>
         requires { start + length bytes.now ≤ 32768 }
         ensures { ReadAs start bytes.now result }

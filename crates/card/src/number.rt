@@ -5,7 +5,8 @@ ghost use Rattle.std.specs.Prelude.{◌<◌};
 // Stands for every number from here on: all limits of a card are below it.
 const CAP: usize = 1 << 32;
 
-// The number that the bytes spell, cut at 2 ^ 32 so that no number of digits is too long. By slice patterns, as is the rule here.
+// The number that the bytes spell, cut at 2 ^ 32 so that no number of digits is too long. By slice patterns, as is the rule
+// here (docs/DECISIONS.md, Forms).
 pub fn number(bytes: &[u8]) -> Option<usize>
     ensures { Numbered bytes.now result }
 {

@@ -22,7 +22,11 @@ impl Entry {
         match self {
             Entry::Nothing => {}
             Entry::Mask(mask) => places.masks[filled.masks] = mask,
-            Entry::Table(kind, scope, tuples) => {
+            Entry::Table {
+                kind,
+                scope,
+                tuples,
+            } => {
                 let blocks = scope.numbers;
                 places.tables[filled.tables] = TableRecord {
                     kind,
@@ -36,7 +40,7 @@ impl Entry {
                 let (first, count) = (filled.cells, tuple.count);
                 places.cells[first..first + count].copy_from_slice(&tuple.numbers[0..count]);
             }
-            Entry::Rule(rule, scope) => {
+            Entry::Rule { rule, scope } => {
                 let blocks = scope.numbers;
                 places.rules[filled.rules] = RuleRecord {
                     rule,

@@ -1,4 +1,4 @@
-// How far a card has been read.
+// The place in a card's bytes that its reading has reached.
 use crate::stage::Stage;
 
 // What is left of the card and where that begins, the number of its first line, and the stage there.

@@ -17,12 +17,27 @@ pub enum Expected {
     Open(usize),
     Sheets,
     Kind(usize),
-    Scope(usize, Kind),
-    Tuples(usize, Kind, NumberList),
-    Tuple(usize, usize, usize, NumberList),
+    Scope {
+        more: usize,
+        kind: Kind,
+    },
+    Tuples {
+        more: usize,
+        kind: Kind,
+        scope: NumberList,
+    },
+    Tuple {
+        more: usize,
+        arity: usize,
+        left: usize,
+        last: NumberList,
+    },
     Rules,
     Rule(usize),
-    RuleScope(usize, Rule),
+    RuleScope {
+        more: usize,
+        rule: Rule,
+    },
     End,
     Nothing,
 }
@@ -76,7 +91,12 @@ impl Expected {
     {
         match left.checked_sub(1) {
             None => Expected::kind_or_rules(more),
-            Some(left) => Expected::Tuple(more, arity, left, last),
+            Some(left) => Expected::Tuple {
+                more,
+                arity,
+                left,
+                last,
+            },
         }
     }
 }

@@ -26,8 +26,8 @@ const MAX_TUPLES: usize = 4096;
 
 const MAX_RULES: usize = 192;
 
-// One call for each line that may be due: they differ in the reader of the value, its limits and what is due next. Each says what it
-// answers where the stage is that of a reading: a reading is no part of a stage, so that cannot be an
+// One call for each line that may be due: they differ in the reader of the value, its limits and what is due next. Each
+// says what it answers where the stage is that of a reading: a reading is no part of a stage, so that cannot be an
 // invariant. Its limits, which `Fit` states, would as ghost fields have to be shown again of every stage that is made.
 impl Stage {
     // The same blocks and tuples, with another line due.
@@ -73,7 +73,7 @@ impl Stage {
         ensures { (q : Reading) → self ≡ stage_of q → result ≡ answered q (kind_due more) (codes "kind") value.now }
     {
         let kind = kind_in(value)?;
-        Ok(self.then(Expected::Scope(more, kind), Entry::Nothing))
+        Ok(self.then(Expected::Scope { more, kind }, Entry::Nothing))
     }
 
     pub(crate) fn after_scope(self, more: usize, kind: Kind, value: &[u8]) -> Result<Step, Refusal>
@@ -81,7 +81,7 @@ impl Stage {
         ensures { (q : Reading) → self ≡ stage_of q → result ≡ answered q (scope_due more kind) (codes "scope") value.now }
     {
         let scope = scope_in(value, self.blocks)?;
-        Ok(self.then(Expected::Tuples(more, kind, scope), Entry::Nothing))
+        Ok(self.then(Expected::Tuples { more, kind, scope }, Entry::Nothing))
     }
 
     // How many tuples a table has: no more than all tables may still have together.
@@ -108,7 +108,14 @@ impl Stage {
             tuples: self.tuples + tuples,
             ..self
         };
-        Ok(stage.then(next, Entry::Table(kind, scope, tuples)))
+        Ok(stage.then(
+            next,
+            Entry::Table {
+                kind,
+                scope,
+                tuples,
+            },
+        ))
     }
 
     pub(crate) fn after_tuple(
@@ -139,7 +146,7 @@ impl Stage {
         ensures { (q : Reading) → self ≡ stage_of q → result ≡ answered q (rule_due more) (codes "rule") value.now }
     {
         let rule = rule_in(value)?;
-        Ok(self.then(Expected::RuleScope(more, rule), Entry::Nothing))
+        Ok(self.then(Expected::RuleScope { more, rule }, Entry::Nothing))
     }
 
     pub(crate) fn after_rule_scope(
@@ -152,7 +159,7 @@ impl Stage {
         ensures { (q : Reading) → self ≡ stage_of q → result ≡ answered q (rule_scope_due more rule) (codes "scope") value.now }
     {
         let scope = scope_in(value, self.blocks)?;
-        Ok(self.then(Expected::rule_or_end(more), Entry::Rule(rule, scope)))
+        Ok(self.then(Expected::rule_or_end(more), Entry::Rule { rule, scope }))
     }
 
     pub(crate) fn after_end(self, value: &[u8]) -> Result<Step, Refusal>

@@ -6,7 +6,7 @@ use network::refusal::Refusal;
 use std::alloc::Global;
 use std::test::Fail;
 
-// A card with a number of so many nines in its second line, or in its ninth.
+// A card with a number of so many nines in its second line, or in its eighth.
 fn mask_of_nines(alloc: Global, digits: usize) -> Result<Vec<u8>, Fail> {
     let mut card = Vec::new(alloc);
     card.extend_from_slice(b"blocks=1\nopen=")?;
