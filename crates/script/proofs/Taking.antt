@@ -1,4 +1,4 @@
--- What is printed so far, and what the lines that are left print: one line more, and at the end.
+-- What is printed so far, and what the lines that are left print: one line more.
 use Rattle.std.proofs.Common.{◌≡◌, ℕ, List, [], ◌∷◌, ◌++◌, sym, refl, ap, ◌∙◌, append_assoc}
 use Rattle.network.specs.Filters.{Filtering}
 use Rattle.network.specs.Sheets.{Sheet}
@@ -24,7 +24,3 @@ module _ (m : List Sheet) (f : Filtering) (st : State) (out now : List ℕ) wher
       let u = unended (lines more).rest in
       ap (λ o. o ++ text_of (p ++ u)) is ∙ append_assoc out (text_of t) (text_of (p ++ u)) ∙ ap (λ x. out ++ x) (sym (text_append t (p ++ u)) ∙ ap text_of (sym (append_assoc t p u)))
       ∙ ap (λ ls. out ++ text_of (rest_printed m f st ls)) (sym cut)
-
-  -- with no line left, a rest is a line that does not end
-  pub no_line : (rest : List ℕ) → lines rest ≡ record { full = []; rest = rest } → now ≡ out ++ text_of (unended rest) → now ≡ out ++ text_of (rest_printed m f st (lines rest))
-  no_line rest cut is = is ∙ ap (λ ls. out ++ text_of (rest_printed m f st ls)) (sym cut)

@@ -30,7 +30,10 @@ fn filter_in(line: &[u8]) -> Result<Nfc, Refusal>
     if !is_word(&line[0..equals], b"filter") {
         return Err(Refusal::Malformed);
     }
-    numbered(number(&line[equals + 1..]).ok_or(Refusal::Malformed)?)
+    let Some(n) = number(&line[equals + 1..]) else {
+        return Err(Refusal::Malformed);
+    };
+    numbered(n)
 }
 
 // The filter, and the commands that come after its line.
@@ -40,6 +43,8 @@ pub(crate) fn begin(commands: &[u8]) -> Result<(Nfc, &[u8]), Refusal>
     if commands.len() > MAX_BYTES {
         return Err(Refusal::LimitExceeded);
     }
-    let (first, rest) = first_line(commands).ok_or(Refusal::Malformed)?;
+    let Some((first, rest)) = first_line(commands) else {
+        return Err(Refusal::Malformed);
+    };
     Ok((filter_in(first)?, rest))
 }

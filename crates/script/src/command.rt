@@ -12,7 +12,7 @@ use network::refusal::Refusal;
 // A call that is asked for. Of a pin's numbers, those past the last block and the last slot are refused by the session.
 #[derive(Clone, Copy)]
 pub enum Command {
-    Pin(u32, u32),
+    Pin { block: u32, slot: u32 },
     Rewind,
     Next(u32),
 }
@@ -31,9 +31,16 @@ impl Command {
         let Some(comma) = place_of(value, b',') else {
             return Err(Refusal::Malformed);
         };
-        let block = number(&value[0..comma]).ok_or(Refusal::Malformed)?;
-        let slot = number(&value[comma + 1..]).ok_or(Refusal::Malformed)?;
-        Ok(Command::Pin(small(block)?, small(slot)?))
+        let Some(block) = number(&value[0..comma]) else {
+            return Err(Refusal::Malformed);
+        };
+        let Some(slot) = number(&value[comma + 1..]) else {
+            return Err(Refusal::Malformed);
+        };
+        Ok(Command::Pin {
+            block: small(block)?,
+            slot: small(slot)?,
+        })
     }
 
     fn rewind(value: &[u8]) -> Result<Command, Refusal>
@@ -49,7 +56,9 @@ impl Command {
     fn next(value: &[u8]) -> Result<Command, Refusal>
         ensures { result ≡ next_read value.now }
     {
-        let budget = number(value).ok_or(Refusal::Malformed)?;
+        let Some(budget) = number(value) else {
+            return Err(Refusal::Malformed);
+        };
         Ok(Command::Next(small(budget)?))
     }
 

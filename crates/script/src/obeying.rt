@@ -13,6 +13,7 @@ use crate::lister::Lister;
 use crate::printing::{print_refusal, print_start, print_walk};
 use network::bank::Bank;
 use network::refusal::Refusal;
+use network::row::BLOCKS;
 use std::alloc::AllocError;
 
 // A block or a slot of that number: from 255 on there is neither.
@@ -23,7 +24,8 @@ fn byte(n: u32) -> u8
 }
 
 impl Lister {
-    // Makes the call that a command asks for, and prints its answer.
+    // Makes the call that a command asks for, and prints its answer. There are never more blocks than places for slots; the least only
+    // keeps the slice inside the array.
     fn obey<B: Bank>(
         &mut self,
         bank: &B,
@@ -35,7 +37,7 @@ impl Lister {
             × (string_bytes out.new ≡ string_bytes out.old ++ text_of (called command (step st (call_of (B.Bank.meaning bank.now) f command))).printed)) }
     {
         match command {
-            Command::Pin(block, slot) => {
+            Command::Pin { block, slot } => {
                 let answer = self.session.pin(byte(block), byte(slot));
                 print_start(out, "pin", answer)
             }
@@ -44,11 +46,11 @@ impl Lister {
                 print_start(out, "rewind", answer)
             }
             Command::Next(budget) => {
-                let mut place = [0; 32];
+                let mut place = [0; BLOCKS];
                 let answer = self
                     .session
                     .next(bank, &mut self.filter, budget, &mut place);
-                print_walk(out, answer, &place[0..self.blocks.min(32)])
+                print_walk(out, answer, &place[0..self.blocks.min(BLOCKS)])
             }
         }
     }

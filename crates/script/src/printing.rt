@@ -18,13 +18,13 @@ pub(crate) fn print_refusal(out: &mut String, refusal: Refusal) -> Result<(), Al
     write!(out, "refused={number}\n")
 }
 
-pub(crate) fn print_outcome(out: &mut String, outcome: Outcome) -> Result<(), AllocError>
+fn print_outcome(out: &mut String, outcome: Outcome) -> Result<(), AllocError>
     ensures { OnOk result (string_bytes out.new ≡ string_bytes out.old ++ bytes_of (end_line (walked (outcome_named outcome)))) }
 {
     write!(out, "outcome={outcome}\n")
 }
 
-pub(crate) fn print_visits(out: &mut String, visits: u32) -> Result<(), AllocError>
+fn print_visits(out: &mut String, visits: u32) -> Result<(), AllocError>
     ensures { OnOk result (string_bytes out.new ≡ string_bytes out.old ++ bytes_of (visits_line visits)) }
 {
     write!(out, "visits={visits}\n")
@@ -79,7 +79,7 @@ fn print_slots(out: &mut String, slots: &[u8]) -> Result<(), AllocError>
     Ok(())
 }
 
-pub(crate) fn print_plan(out: &mut String, slots: &[u8]) -> Result<(), AllocError>
+fn print_plan(out: &mut String, slots: &[u8]) -> Result<(), AllocError>
     ensures { OnOk result (string_bytes out.new ≡ string_bytes out.old ++ bytes_of (plan_line slots.now)) }
 {
     out.push_str("plan=")?;

@@ -17,6 +17,7 @@ use card::read::read;
 use card::refusal::CardRefusal;
 use card::sizes::Sizes;
 use network::bank::Bank;
+use network::row::BLOCKS;
 
 // Before a card is read.
 const NO_TABLE: TableRecord = TableRecord {
@@ -33,21 +34,28 @@ const NO_RULE: RuleRecord = RuleRecord {
     blocks: [255; 6],
 };
 
+// A card has at most so many tables, 4,096 tuples of at most six slots each, and so many rules.
+const TABLES: usize = 32;
+
+const CELLS: usize = 24576;
+
+const RULES: usize = 192;
+
 #[derive(Drop)]
 pub struct Room {
-    pub masks: [u32; 32],
-    pub tables: [TableRecord; 32],
-    pub cells: [u8; 24576],
-    pub rules: [RuleRecord; 192],
+    pub masks: [u32; BLOCKS],
+    pub tables: [TableRecord; TABLES],
+    pub cells: [u8; CELLS],
+    pub rules: [RuleRecord; RULES],
 }
 
 impl Room {
     pub(crate) fn new() -> Room {
         Room {
-            masks: [0; 32],
-            tables: [NO_TABLE; 32],
-            cells: [0; 24576],
-            rules: [NO_RULE; 192],
+            masks: [0; BLOCKS],
+            tables: [NO_TABLE; TABLES],
+            cells: [0; CELLS],
+            rules: [NO_RULE; RULES],
         }
     }
 
@@ -72,10 +80,10 @@ impl Room {
         sizes.bank(&self.tables, &self.cells, &self.rules)
     }
 
-    // Its open masks.
+    // Its open masks. Of a card there are never more; the least keeps the slice inside the array whatever the sizes are.
     pub(crate) fn masks(&self, sizes: Sizes) -> &[u32]
         ensures { (x : Network) → HoldsNetwork x sizes (memory_of self.now) → result.now ≡ x.masks }
     {
-        &self.masks[0..sizes.masks.min(32)]
+        &self.masks[0..sizes.masks.min(BLOCKS)]
     }
 }

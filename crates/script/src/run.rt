@@ -31,6 +31,7 @@ fn run_commands<B: Bank>(
         Err(refusal) => return print_refusal(out, refusal),
     };
     let mut session = Session::blank();
+    // it never refuses a network that can be opened
     if let Err(refusal) = session.open(bank, masks) {
         return print_refusal(out, refusal);
     }
@@ -58,7 +59,7 @@ fn run_card(out: &mut String, card: &[u8], commands: &[u8]) -> Result<(), AllocE
 #[tactic(auto, using(crate::specs::Example::worked_case))]
 pub fn run(alloc: Global, card: &[u8], commands: &[u8]) -> Result<String, AllocError>
     ensures transcript { IfOk result (λ text. string_bytes text ≡ transcript card.now commands.now) }
-    ensures plans { ListsAlong card.now commands.now }
+    ensures plans { IfOk result (λ text. ListsAlong card.now commands.now (string_bytes text)) }
     ensures example { WorkedCase }
 {
     let mut text = String::new(alloc);

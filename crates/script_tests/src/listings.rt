@@ -29,11 +29,6 @@ const FILES: &[(&[u8], &[u8], &str)] = &[
         b"filter=0\nnext=4\nnext=2\nnext=1\nrewind=1\nnext=6\nrewind=1\nnext=5\nnext=1\n",
         "outcome=spent\nvisits=4\noutcome=done\nvisits=2\noutcome=done\nvisits=0\noutcome=rewind\noutcome=done\nvisits=6\noutcome=rewind\noutcome=spent\nvisits=5\noutcome=done\nvisits=1\n",
     ),
-    (
-        TWO,
-        b"filter=0\nnext=1\nnext=1\nnext=1\nnext=1\nnext=1\nnext=1\n",
-        "outcome=spent\nvisits=1\noutcome=plan\nplan=0,1\nvisits=1\noutcome=spent\nvisits=1\noutcome=plan\nplan=1,0\nvisits=1\noutcome=plan\nplan=1,1\nvisits=1\noutcome=done\nvisits=0\n",
-    ),
     // a rewind starts over, and keeps the pins
     (
         TWO,
@@ -79,7 +74,7 @@ const FILES: &[(&[u8], &[u8], &str)] = &[
         b"filter=0\npin=0,0\npin=1,0\nnext=9\nnext=9\nrewind=1\nnext=9\n",
         "outcome=pin\noutcome=pin\noutcome=done\nvisits=1\noutcome=done\nvisits=0\noutcome=rewind\noutcome=done\nvisits=1\n",
     ),
-    // the first line may be the only one, and the last one may have no newline
+    // a last line with no newline is malformed, whatever it says
     (TWO, b"filter=0\nnext=9", "refused=1\n"),
     (
         TWO,
