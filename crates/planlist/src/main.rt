@@ -2,16 +2,20 @@
 #![tactic(auto)]
 
 use script::run::run;
-use std::{fs, io};
+use std::fs;
+use std::io::{self, ErrorKind};
 
-// The bytes of a file; one that cannot be read counts as empty.
-fn contents(rt: &HostRuntime, path: &str) -> Vec<u8> {
-    fs::read(rt, path).unwrap_or(Vec::new(rt.alloc()))
+// The bytes of a file. One that cannot be read counts as empty, but want of memory is an error.
+fn contents(rt: &HostRuntime, path: &str) -> io::Result<Vec<u8>> {
+    match fs::read(rt, path) {
+        Err(error) if error.kind() != ErrorKind::OutOfMemory => Ok(Vec::new(rt.alloc())),
+        read => read,
+    }
 }
 
 fn main(rt: HostRuntime) -> io::Result<()> {
-    let card = contents(&rt, "network.txt");
-    let commands = contents(&rt, "commands.txt");
+    let card = contents(&rt, "network.txt")?;
+    let commands = contents(&rt, "commands.txt")?;
     let text = run(rt.alloc(), &card, &commands)?;
     rt.print(text)
 }

@@ -1,4 +1,4 @@
-// The example network, as the program shows it and tests use it: six blocks with slots 0 to 2 open and three allow tables.
+// The example network, as tests use it: six blocks with slots 0 to 2 open and three allow tables.
 // Two rules stand beside it, to show a pair of banks.
 #![tactic(auto)]
 
