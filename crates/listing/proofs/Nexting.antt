@@ -4,10 +4,11 @@ use Rattle.std.proofs.lemmas.List.{take-append-drop}
 use Rattle.std.proofs.lemmas.Bool.{cond-false, cond-true, le-ltb, lt-ltb}
 use Rattle.network.specs.Sheets.{Sheet}
 use Rattle.network.specs.Filters.{Filtering}
+use Rattle.network.specs.Laws.{LawfulBank}
 use Rattle.network.proofs.TreeOrder.{tree_ascends}
-use Rattle.listing.specs.Model.{Call, done, if_plan, Listing, listing, misfits, next_call, next_step, outcome, Outcome, plan, refuse, refused, spent, step, Step, stop, walk, walked}
+use Rattle.listing.specs.Model.{Answer, Call, done, if_plan, Listing, listing, misfits, next_call, next_step, outcome, Outcome, plan, refuse, refused, spent, step, Step, stop, walk, walked}
 use Rattle.listing.specs.Runs.{WalksOn}
-use Rattle.listing.specs.Represents.{Continued, GoesOn, Keeps, Leads, Meets, PlaceAt, Takes, WalksAlong, blocks_in, blocks_of, last_of, nodes_of, opened_of, pinned_of, records_of}
+use Rattle.listing.specs.Represents.{Continued, GoesOn, Keeps, Leads, Meets, PlaceAt, Runs, Takes, WalksAlong, blocks_in, blocks_of, last_of, nodes_of, opened_of, pinned_of, records_of}
 use Rattle.listing.specs.Records.{masks_of, pins_of}
 use Rattle.listing.specs.Walked.{outcome_named}
 use Rattle.listing.specs.declared.outcome.Outcome.{Outcome as CodeOutcome}
@@ -15,6 +16,7 @@ use Rattle.listing.specs.declared.outcome.Outcome.TheVariants.{Done, Plan, Spent
 use Rattle.listing.specs.declared.listing.Listing.{Listing as CodeListing}
 use Rattle.listing.specs.declared.session.Session.{Session}
 use Rattle.listing.proofs.Records.{as_many_masks}
+use Rattle.listing.proofs.RunsFrom.{next_runs}
 use Rattle.listing.proofs.Sessions.{opened, refusal}
 use Rattle.listing.proofs.Visits.{walk_on}
 
@@ -48,7 +50,7 @@ filled_place s t m f budget o v c e before after front back =
     (sym (take-append-drop s.blocks after) ∙ ap₂ (λ a b. a ++ b) (front ∙ ap (λ i. take i t.path) (sym (c.whole (ap outcome_named e)))) back)
 
 -- a walk goes on over the filter's nodes
-pub walks_along : (s t : CodeListing) (m : List Sheet) (f : Filtering) (budget : ℕ) (o : CodeOutcome) (v : ℕ) → Continued s t m f budget o v →
+walks_along : (s t : CodeListing) (m : List Sheet) (f : Filtering) (budget : ℕ) (o : CodeOutcome) (v : ℕ) → Continued s t m f budget o v →
     (place : List ℕ) → (outcome_named o ≡ plan → take s.blocks place ≡ take s.blocks t.path) →
     WalksOn s.blocks budget (nodes_of s m f) (last_of s) (last_of t) (outcome_named o) v (if_plan (outcome_named o) (take s.blocks place) [])
 walks_along s t m f budget o v c place p =
@@ -93,7 +95,7 @@ module _ (s : CodeListing) (m : List Sheet) (f : Filtering) (budget room : ℕ) 
           (λ l h. after_room l h ∙ cond-true (misfits (length l.opened) m) (refuse (listing l) 7) (next_step l m f budget) (ap (λ n. misfits n m) (size l h) ∙ e))
 
       -- a walk is the model's step
-      pub next_accepted : misfits s.blocks m ≡ false → (t : CodeListing) (o : CodeOutcome) (v : ℕ) → Continued s t m f budget o v →
+      next_accepted : misfits s.blocks m ≡ false → (t : CodeListing) (o : CodeOutcome) (v : ℕ) → Continued s t m f budget o v →
           (place : List ℕ) → (outcome_named o ≡ plan → take s.blocks place ≡ take s.blocks t.path) →
           Leads s t (next_call m f budget room) (walked (outcome_named o) v (if_plan (outcome_named o) (take s.blocks place) []))
       next_accepted e t o v c place p l h =
@@ -122,12 +124,27 @@ module _ (s : CodeListing) (m : List Sheet) (f : Filtering) (budget room : ℕ) 
 
 -- what a walk of its listing says of a session
 module _ (s : Session) (q t : CodeListing) (is : s.listing ≡ Some q) (m : List Sheet) (f : Filtering) (budget : ℕ) (o : CodeOutcome) (v : ℕ) (place : List ℕ) where
-  pub session_takes : (c : Call) → Leads q t c (walked (outcome_named o) v (if_plan (outcome_named o) (take q.blocks place) [])) →
+  session_takes : (c : Call) → Leads q t c (walked (outcome_named o) v (if_plan (outcome_named o) (take q.blocks place) [])) →
       Takes s (record { listing = Some t }) c (walked (outcome_named o) v (if_plan (outcome_named o) (take (blocks_of s) place) []))
   session_takes c h =
       subst (λ n. Takes s (record { listing = Some t }) c (walked (outcome_named o) v (if_plan (outcome_named o) (take n place) []))) (sym (ap blocks_in is))
       (opened s (record { listing = Some t }) q t c _ is refl h)
 
-  pub session_walks : WalksOn q.blocks budget (nodes_of q m f) (last_of q) (last_of t) (outcome_named o) v (if_plan (outcome_named o) (take q.blocks place) []) →
+  session_walks : WalksOn q.blocks budget (nodes_of q m f) (last_of q) (last_of t) (outcome_named o) v (if_plan (outcome_named o) (take q.blocks place) []) →
       WalksAlong s (record { listing = Some t }) m f budget (walked (outcome_named o) v (if_plan (outcome_named o) (take (blocks_of s) place) []))
   session_walks h = subst (λ z. GoesOn z (Some t) m f budget (outcome_named o) v (if_plan (outcome_named o) (take (blocks_in z) place) [])) (sym is) h
+
+  -- an accepted call is the model's step, over every list of calls, and a walk
+  module _ (bank : LawfulBank m) (room : ℕ) (allowed : (eqb budget 0 || ltb 1000000 budget) ≡ false) (enough : q.blocks ≤ room) (fit : misfits q.blocks m ≡ false)
+      (w : Continued q t m f budget o v) (agrees : outcome_named o ≡ plan → take q.blocks place ≡ take q.blocks t.path) where
+    abbrev after : Session
+    after = record { listing = Some t }
+
+    abbrev answer : Answer
+    answer = walked (outcome_named o) v (if_plan (outcome_named o) (take (blocks_of s) place) [])
+
+    steps : Takes s after (next_call m f budget room) answer
+    steps = session_takes (next_call m f budget room) (next_accepted q m f budget room allowed enough fit t o v w place agrees)
+
+    pub accepted : Takes s after (next_call m f budget room) answer × ((n : List Sheet) → Runs n s after (next_call m f budget room) answer) × WalksAlong s after m f budget answer
+    accepted = (steps, next_runs s after answer m f budget room bank steps, session_walks (walks_along q t m f budget o v w place agrees))

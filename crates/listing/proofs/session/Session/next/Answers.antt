@@ -1,9 +1,8 @@
 use Rattle.std.proofs.Common.{◌≡◌, ◌||◌, eqb, ltb, length, take, drop, sym, refl, ap, ◌∙◌, subst}
 use Rattle.std.proofs.lemmas.Bool.{not-false, not-true}
-use Rattle.listing.specs.Model.{plan}
 use Rattle.listing.specs.Represents.{PlaceAt, blocks_in, last_of}
 use Rattle.listing.specs.Walked.{outcome_named}
-use Rattle.listing.proofs.Nexting.{filled_place, kept_place, named_plan, next_accepted, next_budget, next_misfit, next_short, session_takes, session_walks, walks_along}
+use Rattle.listing.proofs.Nexting.{accepted, filled_place, kept_place, named_plan, next_budget, next_misfit, next_short}
 use Rattle.listing.proofs.RunsFrom.{next_runs}
 use Rattle.listing.proofs.Sessions.{none_unless, opened, same_listing, unopened_refused}
 use Rattle.listing.proofs.session.Session.next.Goals as goal
@@ -48,46 +47,27 @@ returns-in-Plan g c =
     let s = c.args.self.now in
     let q = c.in-Some.listing in
     let t = c.go_on-outcome.new.self in
-    let m = g.B.Bank.meaning c.args.bank.now in
-    let f = g.F.Filter.filtered c.args.filter.now in
-    let b = c.args.budget in
     let o = c.go_on-outcome.result.0 in
-    let v = c.go_on-outcome.result.1 in
     let w = c.go_on-outcome.ensures.walk in
     let place = c.write_plan.new.place in
     let written : take q.blocks place ≡ take q.blocks t.path = ap (λ i. take i place) (sym w.blocks) ∙ c.write_plan.ensures.front ∙ ap (λ i. take i t.path) w.blocks in
-    let k = not-true (eqb b 0 || ltb 1000000 b) (sym c.if-not-is_budget.ensures) in
-    let e = session_takes s q t c.in-Some.is m f b o v place _ (next_accepted q m f b (length c.args.place.now) k c.if-place-listing.false (sym c.if-has_misfit.ensures) t o v w place (λ _. written)) in
+    let a = accepted s q t c.in-Some.is _ _ c.args.budget o _ place (g.B.Bank.lawful c.args.bank.now) _ (not-true _ (sym c.if-not-is_budget.ensures)) c.if-place-listing.false (sym c.if-has_misfit.ensures) w (λ _. written) in
     record {
-      step = e;
-      runs = next_runs s _ _ _ _ _ _ (g.B.Bank.lawful c.args.bank.now) e;
-      walks = session_walks s q t c.in-Some.is m f b o v place (walks_along q t m f b o v w place (λ _. written));
+      step = a.0;
+      runs = a.1;
+      walks = a.2;
       meaning = c.go_on-outcome.ensures.meaning;
       refused = tt;
       place = subst (λ z. PlaceAt (outcome_named o) (blocks_in z) (last_of t) c.args.place.now place) (sym c.in-Some.is)
-          (filled_place q t m f b o v w c.in-Plan.is c.args.place.now place written (ap (λ i. drop i place) (sym w.blocks) ∙ c.write_plan.ensures.back ∙ ap (λ i. drop i c.args.place.now) w.blocks));
+          (filled_place q t _ _ c.args.budget o _ w c.in-Plan.is c.args.place.now place written (ap (λ i. drop i place) (sym w.blocks) ∙ c.write_plan.ensures.back ∙ ap (λ i. drop i c.args.place.now) w.blocks));
     }
 
 pub returns-in_default-outcome : goal.returns-in_default-outcome
 returns-in_default-outcome g c =
     let s = c.args.self.now in
-    let q = c.in-Some.listing in
     let t = c.go_on-outcome.new.self in
-    let m = g.B.Bank.meaning c.args.bank.now in
-    let f = g.F.Filter.filtered c.args.filter.now in
-    let b = c.args.budget in
     let o = c.go_on-outcome.result.0 in
-    let v = c.go_on-outcome.result.1 in
-    let w = c.go_on-outcome.ensures.walk in
     let place = c.args.place.now in
-    let none : outcome_named o ≡ plan → take q.blocks place ≡ take q.blocks t.path = λ p. absurd (c.in_default-outcome.not-Plan (named_plan o p)) in
-    let k = not-true (eqb b 0 || ltb 1000000 b) (sym c.if-not-is_budget.ensures) in
-    let e = session_takes s q t c.in-Some.is m f b o v place _ (next_accepted q m f b (length place) k c.if-place-listing.false (sym c.if-has_misfit.ensures) t o v w place none) in
-    record {
-      step = e;
-      runs = next_runs s _ _ _ _ _ _ (g.B.Bank.lawful c.args.bank.now) e;
-      walks = session_walks s q t c.in-Some.is m f b o v place (walks_along q t m f b o v w place none);
-      meaning = c.go_on-outcome.ensures.meaning;
-      refused = tt;
-      place = kept_place o _ (last_of t) place c.in_default-outcome.not-Plan;
-    }
+    let a = accepted s c.in-Some.listing t c.in-Some.is _ _ c.args.budget o _ place (g.B.Bank.lawful c.args.bank.now) _ (not-true _ (sym c.if-not-is_budget.ensures)) c.if-place-listing.false (sym c.if-has_misfit.ensures)
+    c.go_on-outcome.ensures.walk (λ p. absurd (c.in_default-outcome.not-Plan (named_plan o p))) in
+    record { step = a.0; runs = a.1; walks = a.2; meaning = c.go_on-outcome.ensures.meaning; refused = tt; place = kept_place o _ (last_of t) place c.in_default-outcome.not-Plan }
