@@ -1,9 +1,6 @@
-use Rattle.std.proofs.Common.{◌≡◌, eqb, length}
+use Rattle.std.proofs.Common.{◌≡◌, eqb, drop}
 use Rattle.network.specs.Sheets.{is_distinct}
 use Rattle.banks.proofs.scope.all_distinct.Given as goal
 
-abbrev pub invariant-loop-rest : goal.invariant-loop-rest
-invariant-loop-rest l = is_distinct eqb l.rest ≡ is_distinct eqb l.numbers
-
-abbrev pub decreases-loop-rest : goal.decreases-loop-rest
-decreases-loop-rest l = length l.rest
+abbrev pub invariant-loop-i : goal.invariant-loop-i
+invariant-loop-i l = is_distinct eqb (drop l.i l.numbers) ≡ is_distinct eqb l.numbers
