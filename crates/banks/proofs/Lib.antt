@@ -6,6 +6,7 @@ pub mod Seeking
 pub mod Tupled
 pub mod Counting
 pub mod Combinations
+pub mod Before
 pub mod Less
 pub mod Chains
 pub mod Recorded
