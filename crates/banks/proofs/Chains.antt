@@ -1,21 +1,18 @@
 -- What a chain of iterators answers, from the list that it gives.
-use Rattle.std.proofs.Common.{◌≡◌, ℕ, suc, ◌+◌, ◌/◌, ◌<◌, Bool, true, false, ◌&&◌, List, [], ◌∷◌, ◌++◌, length, get_or, take, drop, Option, Some, None, sym, refl, ap, ap₂, ◌∙◌, subst, inl, inr, add-one, arith, length-append}
+use Rattle.std.proofs.Common.{◌≡◌, ℕ, suc, ◌+◌, ◌/◌, ◌<◌, Bool, true, false, ◌&&◌, List, [], ◌∷◌, ◌++◌, length, get_or, take, drop, Option, Some, None, sym, ap, ap₂, ◌∙◌, subst, inl, inr, add-one, arith, length-append}
 use denote.Param.Members.{Mut}
 use denote.Ref.{Bor}
 use Rattle.std.specs.Fn.{CalledAtTwo}
 use Rattle.std.specs.Iterator.{AlwaysYields, Yields}
 use Rattle.std.specs.Iterator.Order.{ChecksNeighbours, OrderTurn}
-use Rattle.std.specs.List.{enumerate_from, zip, FoldsTo}
+use Rattle.std.specs.List.{enumerate_from, FoldsTo}
 use Rattle.std.specs.Option.{MatchOption}
 use Rattle.std.specs.declared.iter.Enumerate.{Enumerate}
-use Rattle.std.specs.declared.iter.Zip.{Zip}
-use Rattle.std.specs.declared.slice.Iter.{Iter}
-use Rattle.std.specs.Iterator.Adapters.{enumerate_count, enumerate_source, enumerate_steps, zip_first, zip_second}
-use Rattle.std.proofs.iter.Yields.{fronts}
-use Rattle.std.proofs.lemmas.Iterator.{YieldsList, YieldsList-from_slice, YieldsList-from_zip, zips}
+use Rattle.std.specs.Iterator.Adapters.{enumerate_count, enumerate_source, enumerate_steps}
+use Rattle.std.proofs.lemmas.Iterator.{YieldsList}
 use Rattle.std.proofs.lemmas.Iterator.Consumers.{YieldsList-at, YieldsList-from_enumerate}
 use Rattle.std.proofs.lemmas.Iterator.Splits.{YieldsList-from_shown_while}
-use Rattle.std.specs.Slice.Iter.{iter_rest, chunks_exact_rest, chunks_exact_size, chunks_exact_steps}
+use Rattle.std.specs.Slice.Iter.{chunks_exact_rest, chunks_exact_size, chunks_exact_steps}
 use Rattle.std.specs.declared.slice.ChunksExact.{ChunksExact}
 use Rattle.std.proofs.Math.Seq.{drop-append_seam, take-append_seam}
 use Rattle.std.proofs.Math.Nat.{add-div_left, div-eq_of_lt}
@@ -80,13 +77,6 @@ chunks_road {s} a xs l e k = subst (YieldsList (chunks_exact_steps {A = ℕ}) (�
 pub numbered_road : {s : Enumerate (ChunksExact ℕ)} {t : ChunksExact ℕ} (a : ℕ) (xs : List ℕ) → 0 < a → enumerate_source s ≡ t → enumerate_count s ≡ 0 → chunks_exact_rest t ≡ xs → chunks_exact_size t ≡ a →
     YieldsList {B = ℕ × List ℕ} (enumerate_steps (chunks_exact_steps {A = ℕ})) (λ p. (p.0, p.1.now)) s (enumerate_from 0 (cut a xs))
 numbered_road a xs l of zero e k = YieldsList-from_enumerate (YieldsList-at of (chunks_road a xs l e k)) zero
-
--- the pairs that are left of two lists
-abbrev pub pairs : Zip (Iter ℕ) (Iter ℕ) → List (ℕ × ℕ)
-pairs s = zip (iter_rest (zip_first s)) (iter_rest (zip_second s))
-
-pub pairs_road : (s : Zip (Iter ℕ) (Iter ℕ)) → YieldsList {B = ℕ × ℕ} (zips fronts fronts) (λ p. (p.0.now, p.1.now)) s (pairs s)
-pairs_road s = YieldsList-from_zip (YieldsList-from_slice (iter_rest (zip_first s)) refl) (YieldsList-from_slice (iter_rest (zip_second s)) refl)
 
 -- a turn of a `for` over numbered tuples
 pub numbered : (ts : List (List ℕ)) (n : ℕ) (x : ℕ × Bor (List ℕ)) → (n < length (enumerate_from 0 ts)) × (◌≡◌ {A = ℕ × List ℕ} (x.0, x.1.now) (get_or (enumerate_from 0 ts) n (x.0, x.1.now))) →

@@ -35,8 +35,9 @@ impl<'a> Search<'a> {
     {
         'search: {
             'tuples: for (i, tuple) in self.cells.chunks_exact(self.masks.len()).enumerate() {
-                for (mask, slot) in self.masks.iter().zip(tuple) {
-                    if !has_slot(*mask, *slot) {
+                // by index, as in `is_inside`
+                for q in 0..tuple.len().min(self.masks.len()) {
+                    if !has_slot(self.masks[q], tuple[q]) {
                         continue 'tuples;
                     }
                 }
