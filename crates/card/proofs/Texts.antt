@@ -1,13 +1,23 @@
--- Two texts compared by `==`: the test of the definitions agrees.
-use Rattle.std.proofs.Common.{◌≡◌, ℕ, Bool, true, List, eqb, sym, subst}
+-- Two texts compared by `==`: equal, or not, and the test of the definitions agrees.
+use Rattle.std.proofs.Common.{◌≡◌, ℕ, Bool, true, false, List, eqb, sym, ◌∙◌, ap, subst}
 use lib.Pointwise.{pointwise}
 use Rattle.std.proofs.lemmas.Slice.Eq.{slice_eq-Decides}
-use Rattle.std.proofs.lemmas.Bool.Decides.{same_from_decides, Decides-eqb}
+use Rattle.std.proofs.lemmas.Bool.Decides.{not_from_Decides, same_from_decides, Decides-eqb}
 use Rattle.card.specs.Verdict.{same_bytes}
 use Rattle.card.proofs.Lines.{same_bytes_self, same_bytes_true}
 
 abbrev pub Compared : List ℕ → List ℕ → Bool → Type 0
 Compared xs ys r = r ≡ pointwise eqb xs ys
+
+-- a word stands in an array, and is compared as the slice of it
+pub compared : (xs : List ℕ) {slice word : List ℕ} {r : Bool} → Compared xs slice r → slice ≡ word → Compared xs word r
+compared xs m n = m ∙ ap (pointwise eqb xs) n
+
+pub same : (key word : List ℕ) (r : Bool) → Compared key word r → r ≡ true → word ≡ key
+same key word r m e = sym ((slice_eq-Decides Decides-eqb key word r m).0 e)
+
+pub other : (key word : List ℕ) (r : Bool) → Compared key word r → r ≡ false → key ≡ word → ⊥
+other key word r m e = not_from_Decides r (slice_eq-Decides Decides-eqb key word r m) e
 
 pub tested : (bs word : List ℕ) (r : Bool) → Compared bs word r → same_bytes bs word ≡ r
 tested bs word r m =
